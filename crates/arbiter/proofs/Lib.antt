@@ -1,0 +1,6 @@
+pub mod RuleLaws
+pub mod ModelLaws
+pub mod Invariant
+pub mod Fairness
+pub mod Agreement
+pub mod Example

@@ -1,0 +1,5 @@
+pub mod Bits
+pub mod Rules
+pub mod Model
+pub mod Waits
+pub mod Claims
