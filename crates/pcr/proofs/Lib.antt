@@ -1,0 +1,2 @@
+pub mod BankAt
+pub mod MaskTable
