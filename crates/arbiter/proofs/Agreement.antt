@@ -1,9 +1,8 @@
 -- The rules keep the model: what each rule leaves of the arbiter state agrees with the model's step. Assumes nothing.
 use mathlib.Core.Path.{_≡_, refl, sym, ap, _∙_, subst, fun-ext}
-use mathlib.Core.Bool.{Bool, true, false, cond, _&&_, _||_}
+use mathlib.Core.Bool.{Bool, true, false, cond, _||_}
 use mathlib.Core.List.{List}
 use Prim.Native.Nat.{ℕ, zero, suc, _+_, _<_}
-use native.Mathlib.Omega.{arith}
 use lib.ListN.{length, getD, set, replicate, length-set}
 use lib.Seq.{getD-set-same, getD-set-other}
 use lib.Dec.{eqb, ltb}
@@ -12,14 +11,13 @@ use Rattle.arbiter.specs.declared.Locality.{Locality}
 use Rattle.arbiter.specs.declared.Owner.{Owner}
 use Rattle.arbiter.specs.declared.Owner.the-variants.{Nobody, Held}
 use Rattle.arbiter.specs.declared.Arbiter.{Arbiter}
-use Rattle.arbiter.specs.declared.Change.{Change}
 use Rattle.arbiter.specs.declared.AccessCommand.the-variants.{Nothing, RequestUse, Release, Seize, ClearSeized}
 use Rattle.arbiter.specs.Bits.{bit}
 use Rattle.arbiter.specs.Rules as rule
-use Rattle.arbiter.specs.Rules.{locality, freshArbiter, withActive, withWaiting, withSeized, quietly, emptying, serving, waits, holds, handTo, handedOver, commandOf, requestWith, requested, released, seizeWith, seizedBy, seizedCleared, obeyed, accessWritten, startWith, hashStarted, hashEnded}
-use Rattle.arbiter.specs.Model.{Model, Holder, free, held, Event, hashStart, hashEnd, access, nothing, requestUse, release, seize, clearSeized, accessEvent, put, highestBelow, highest, without, handover, activate, acquire, wait, withdraw, started, start, closed, obey, shut, step, fresh}
+use Rattle.arbiter.specs.Rules.{locality, freshArbiter, withActive, withWaiting, withSeized, quietly, emptying, waits, holds, handTo, handedOver, commandOf, requestWith, requested, released, seizeWith, seizedBy, seizedCleared, obeyed, accessWritten, startWith, hashStarted, hashEnded}
+use Rattle.arbiter.specs.Model.{Model, Holder, free, held, hashStart, hashEnd, access, nothing, requestUse, release, seize, clearSeized, accessEvent, put, highestBelow, highest, handover, acquire, wait, withdraw, started, start, obey, shut, step, fresh}
 use Rattle.arbiter.specs.Claims.{holder, Agrees}
-use Rattle.arbiter.proofs.ModelLaws.{highest-held, held-same}
+use Rattle.arbiter.proofs.ModelLaws.{highest-held}
 use Rattle.arbiter.proofs.Invariant.{Sound}
 
 -- ---- flags
@@ -42,7 +40,7 @@ highest-agrees (suc n) l = by (getD l n false) (highest-agrees n l)
 
 -- power-on and reset
 pub agree-fresh : Agrees fresh freshArbiter false
-agree-fresh = record { active = refl; flags = none 5; sequenceOpen = refl; five = refl }
+agree-fresh = record { active = refl; flags = none 5; sequenceOpen = refl; flagCount = refl }
   where
     none : (n y : ℕ) → false ≡ getD (replicate n false) y false
     none zero y = refl
@@ -52,18 +50,18 @@ agree-fresh = record { active = refl; flags = none 5; sequenceOpen = refl; five 
 module _ {m : Model} {s : Arbiter} {o : Bool} (a : Agrees m s o) where
   -- x waits, or stops waiting, in both
   flag : (x : ℕ) (v : Bool) → x < 5 → (y : ℕ) → put (m .waiting) x v y ≡ getD (set (s .waiting) x v) y false
-  flag x v l y = ap (λ (q : Bool). cond (eqb y x) v q) (a .flags y) ∙ getD-put (s .waiting) x y v (rw (a .five) l)
+  flag x v l y = ap (λ (q : Bool). cond (eqb y x) v q) (a .flags y) ∙ getD-put (s .waiting) x y v (rw (a .flagCount) l)
 
   put-flag : (x : ℕ) (v : Bool) → x < 5 → Agrees (record { active = m .active; waiting = put (m .waiting) x v; sequence = m .sequence }) (withWaiting s x v) o
-  put-flag x v l = record { active = a .active; flags = flag x v l; sequenceOpen = a .sequenceOpen; five = length-set (s .waiting) x v ∙ a .five }
+  put-flag x v l = record { active = a .active; flags = flag x v l; sequenceOpen = a .sequenceOpen; flagCount = length-set (s .waiting) x v ∙ a .flagCount }
 
   -- another owner in both
   own : (w : Owner) → Agrees (record { active = holder w; waiting = m .waiting; sequence = m .sequence }) (withActive s w) o
-  own w = record { active = refl; flags = a .flags; sequenceOpen = a .sequenceOpen; five = a .five }
+  own w = record { active = refl; flags = a .flags; sequenceOpen = a .sequenceOpen; flagCount = a .flagCount }
 
   -- the model knows no seized mark
   pub unmarked : (x : ℕ) (v : Bool) → Agrees m (withSeized s x v) o
-  unmarked x v = record { active = a .active; flags = a .flags; sequenceOpen = a .sequenceOpen; five = a .five }
+  unmarked x v = record { active = a .active; flags = a .flags; sequenceOpen = a .sequenceOpen; flagCount = a .flagCount }
 
   is-highest : highest (m .waiting) ≡ holder (rule.highest (s .waiting))
   is-highest = ap highest (fun-ext (a .flags)) ∙ highest-agrees 5 (s .waiting)
@@ -79,7 +77,7 @@ module _ {m : Model} {s : Arbiter} {o : Bool} (a : Agrees m s o) where
       by (Held y) e =
           let f : Agrees (record { active = m .active; waiting = put (m .waiting) (y .0) false; sequence = m .sequence }) (withWaiting s (y .0) false) o =
           put-flag (y .0) false (highest-held 5 (m .waiting) (y .0) e .below) in
-          rw e (record { active = refl; flags = f .flags; sequenceOpen = a .sequenceOpen; five = f .five })
+          rw e (record { active = refl; flags = f .flags; sequenceOpen = a .sequenceOpen; flagCount = f .flagCount })
 
   -- ---- the four bits of ACCESS
 
@@ -117,24 +115,22 @@ module _ {m : Model} {s : Arbiter} {o : Bool} (a : Agrees m s o) where
 
     -- where the device is free nobody waits, so a seizure is as a request
     agree-seize : Sound m → Agrees (obey seize (m .active) (x .0) m) (seizedBy s x .arbiter) o
-    unfolding seizedBy requested
+    unfolding seizedBy
     agree-seize d = subst (λ (h : Holder). Agrees (obey seize h (x .0) m) (seizedBy s x .arbiter) o) (sym (a .active)) (by (s .active) refl)
       where
         unqueued : m .active ≡ free → (y : ℕ) → put (m .waiting) (x .0) false y ≡ waits s y
         unqueued e y = at (eqb y (x .0)) refl
           where
             at : (t : Bool) → eqb y (x .0) ≡ t → cond t false (m .waiting y) ≡ waits s y
-            at true q = sym (d .idle e y (rw (eqb-true y (x .0) q) l)) ∙ a .flags y
+            at true q = sym (d .freeUnasked e y (rw (eqb-true y (x .0) q) l)) ∙ a .flags y
             at false q = a .flags y
 
         by : (w : Owner) → s .active ≡ w → Agrees (obey seize (holder w) (x .0) m) (seizeWith w s x .arbiter) o
-        by Nobody e =
-            subst (λ (c : Change). Agrees (acquire (x .0) m) (c .arbiter) o) (sym (ap (λ (w : Owner). requestWith w s x) e))
-            (record { active = refl; flags = unqueued (a .active ∙ ap holder e); sequenceOpen = a .sequenceOpen; five = a .five })
+        by Nobody e = record { active = refl; flags = unqueued (a .active ∙ ap holder e); sequenceOpen = a .sequenceOpen; flagCount = a .flagCount }
         by (Held y) e = at (ltb (y .0) (x .0))
           where
             at : (t : Bool) → Agrees (cond t (acquire (x .0) m) m) (cond t (emptying (withSeized (withActive (withWaiting s (x .0) false) (Held x)) (y .0) true)) (quietly s) .arbiter) o
-            at true = record { active = refl; flags = flag (x .0) false l; sequenceOpen = a .sequenceOpen; five = length-set (s .waiting) (x .0) false ∙ a .five }
+            at true = record { active = refl; flags = flag (x .0) false l; sequenceOpen = a .sequenceOpen; flagCount = length-set (s .waiting) (x .0) false ∙ a .flagCount }
             at false = a
 
     -- a write to ACCESS of page x that is not shut
@@ -159,11 +155,11 @@ module _ {m : Model} {s : Arbiter} {o : Bool} (a : Agrees m s o) where
   agree-start = subst (λ (h : Holder). Agrees (start h m) (hashStarted s .arbiter) (hashStarted s .emptied || o)) (sym (a .active)) (by (s .active) refl)
     where
       by : (w : Owner) → s .active ≡ w → Agrees (start (holder w) m) (startWith w s .arbiter) (startWith w s .emptied || o)
-      by Nobody e = record { active = refl; flags = a .flags; sequenceOpen = refl; five = a .five }
+      by Nobody e = record { active = refl; flags = a .flags; sequenceOpen = refl; flagCount = a .flagCount }
       by (Held y) e = at (eqb (y .0) 4) refl
         where
           at : (t : Bool) → eqb (y .0) 4 ≡ t → Agrees (cond t (started m) m) (cond t (emptying s) (quietly s) .arbiter) (cond t (emptying s) (quietly s) .emptied || o)
-          at true q = record { active = sym (ap held (eqb-true (y .0) 4 q)) ∙ sym (ap holder e); flags = a .flags; sequenceOpen = refl; five = a .five }
+          at true q = record { active = sym (ap held (eqb-true (y .0) 4 q)) ∙ sym (ap holder e); flags = a .flags; sequenceOpen = refl; flagCount = a .flagCount }
           at false q = a
 
 -- an end of an open sequence closes it, and any other leaves all as it is: no sequence is open afterwards
@@ -172,5 +168,5 @@ unfolding hashEnded
 agree-end {m} {s} {o} a = by o (a .sequenceOpen)
   where
     by : (t : Bool) → m .sequence ≡ t → Agrees (step m hashEnd) (cond t (handedOver s) (quietly s) .arbiter) false
-    by true e = rw e (agree-handover (record { active = a .active; flags = a .flags; sequenceOpen = refl; five = a .five }))
-    by false e = rw e (record { active = a .active; flags = a .flags; sequenceOpen = refl; five = a .five })
+    by true e = rw e (agree-handover (record { active = a .active; flags = a .flags; sequenceOpen = refl; flagCount = a .flagCount }))
+    by false e = rw e (record { active = a .active; flags = a .flags; sequenceOpen = refl; flagCount = a .flagCount })

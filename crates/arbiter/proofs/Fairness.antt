@@ -1,5 +1,4 @@
--- No locality starves: the bound of demand 3 over the model, from any model in which the locality waits; and the whole claim after
--- every list of calls. Assumes nothing.
+-- No locality starves: the bound of demand 3 over the model, from any model in which the locality waits. Assumes nothing.
 use mathlib.Core.Path.{_≡_, refl, sym, ap, _∙_}
 use mathlib.Core.Bool.{Bool, true, false, not, cond, _&&_}
 use mathlib.Core.List.{List, [], _∷_}
@@ -10,12 +9,11 @@ use native.Mathlib.Omega.{arith}
 use native.Mathlib.Decide.{decLt}
 use lib.ListN.{length, take}
 use lib.Dec.{eqb}
-use borrow.Author.Tests.{eqb-true, eqb-false, eq-eqb, ne-eqb}
-use Rattle.arbiter.specs.Model.{Call, Model, Holder, free, held, Event, restart, hashStart, hashEnd, access, nothing, AccessBit, requestUse, release, seize, clearSeized, put, highest, without, obey, wait, shut, step, fresh}
-use Rattle.arbiter.specs.Waits.{run, modelAfter, gives, handsOver, one, handovers, isRequest, isRelease, isRestart, tally, begins, beginnings, while, during, bound}
-use Rattle.arbiter.specs.Claims.{Served, Arbitrated}
-use Rattle.arbiter.proofs.ModelLaws.{clash, held-same, View, same, wiped, queued, dropped, took, passed, view, Highest, split, highest-held, highest-free}
-use Rattle.arbiter.proofs.Invariant.{Sound, sound}
+use borrow.Author.Tests.{eqb-true, eqb-false, eq-eqb}
+use Rattle.arbiter.specs.Model.{Model, Holder, free, held, Event, put, highest, without, handover, wait, step}
+use Rattle.arbiter.specs.Waits.{run, handsOver, one, handovers, isRequest, isRelease, isRestart, tally, begins, beginnings, while, during, bound}
+use Rattle.arbiter.specs.Claims.{Served}
+use Rattle.arbiter.proofs.ModelLaws.{clash, View, same, wiped, queued, dropped, took, passed, view, Highest, split, highest-held, highest-free}
 
 -- ---- flags as numbers
 
@@ -49,10 +47,6 @@ put-false w x y = by (eqb y x)
     by : (t : Bool) → one (cond t false (w y)) ≤ one (w y)
     by true = omega arith
     by false = omega arith
-
--- a second request begins nothing anew
-again : (m : Model) (x : ℕ) → m .waiting x ≡ true → begins x m (access x requestUse) ≡ false
-again m x w = rw w refl
 
 -- ---- one event: y is served at most once for each wait
 
@@ -175,7 +169,7 @@ put-off : (w : ℕ → Bool) (z x : ℕ) → w x ≡ true → eqb x z ≡ false 
 put-off w z x h e = rw e h
 
 -- x goes on waiting or is active, unless it withdraws or all starts anew
-lasts : (m : Model) (x : ℕ) (e : Event) → m .waiting x ≡ true → isRelease x e ≡ false → isRestart e ≡ false
+pub lasts : (m : Model) (x : ℕ) (e : Event) → m .waiting x ≡ true → isRelease x e ≡ false → isRestart e ≡ false
     → (step m e .waiting x ≡ true) ⊎ (step m e .active ≡ held x)
 lasts m x e w y n = by (view m e)
   where
@@ -329,49 +323,9 @@ no-starvation x k m es l w p q r n = by (ended x m es w p q)
         over h e = omega arith
 
 -- and as document 01 counts them
-pub served : (x k : ℕ) (m : Model) → x < 5 → m .waiting x ≡ true → Served m x k
+pub served : (x k : ℕ) (m : Model) → Served m x k
 unfolding Served
 served x k m l w es p q r n =
     let f = no-starvation x k m es l w p q (λ y i j. omega (arith, beginnings-requests y m (during x m es), r y i j)) n in
     let e : during x m es ≡ take (length (during x m es)) es = during-take x m es in
     (length (during x m es), rw (← e) (f .0), rw (← e) (f .1))
-
--- ---- the whole claim
-
-serves : (m : Model) (e : Event) → handsOver m e ≡ true → step m e .active ≡ highest (m .waiting)
-serves m e h = by (view m e) h
-  where
-    by : {n : Model} {t : Bool} → View m e n t → t ≡ true → n .active ≡ highest (m .waiting)
-    by (same p q) t = absurd (clash (sym t ∙ q))
-    by (wiped p q r) t = absurd (clash (sym t ∙ r))
-    by (queued z p q r) t = absurd (clash (sym t ∙ r))
-    by (dropped z p q r) t = absurd (clash (sym t ∙ r))
-    by (took z p q r) t = absurd (clash (sym t ∙ r))
-    by (passed p q r) t = q
-
-requests : (m : Model) → Sound m → (x y : ℕ) → m .active ≡ held y → (y ≡ x → ⊥) → step m (access x requestUse) .waiting x ≡ true
-requests m s x y h n = by (m .sequence) refl (eqb x 4) refl
-  where
-    asked : obey requestUse (m .active) x m .waiting x ≡ true
-    asked = rw (h, ne-eqb y x n, eq-eqb x x refl) refl
-
-    by : (t : Bool) → m .sequence ≡ t → (u : Bool) → eqb x 4 ≡ u → cond {A = Model} (t && u) m (obey requestUse (m .active) x m) .waiting x ≡ true
-    by true p true q = absurd (n (held-same (sym h ∙ s .launch p) ∙ sym (eqb-true x 4 q)))
-    by true p false q = asked
-    by false p u q = asked
-
-pub arbitrated-from : (m : Model) → Sound m → Arbitrated m
-arbitrated-from m s = record {
-  idle = s .idle;
-  own = s .own;
-  launch = s .launch;
-  serves = serves m;
-  requests = requests m s;
-  again = again m;
-  lasts = lasts m;
-  served = λ x k l w. served x k m l w;
-}
-
--- after every list of calls, whatever their refusal numbers
-pub arbitrated : (cs : List (Call × ℕ)) → Arbitrated (modelAfter cs)
-arbitrated cs = arbitrated-from (modelAfter cs) (sound cs)

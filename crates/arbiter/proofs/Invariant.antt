@@ -6,16 +6,16 @@ use mathlib.Core.List.{List, [], _∷_}
 use Prim.Native.Nat.{ℕ, zero, suc, _+_, _/_, _%_, _≤_, _<_}
 use native.Mathlib.Omega.{arith}
 use lib.Dec.{eqb, leb, ltb}
-use borrow.Author.Tests.{eqb-true, eq-eqb, ne-eqb, ltb-true, leb-true}
+use borrow.Author.Tests.{eqb-true, eq-eqb, ltb-true, leb-true}
 use Rattle.arbiter.specs.Bits.{bit}
-use Rattle.arbiter.specs.Model.{Call, powerOn, reset, read, write, respond, pcrValue, interruptLine, mayReset, mayExtend, window, Model, Holder, free, held, Event, restart, hashStart, hashEnd, access, nothing, AccessBit, requestUse, release, seize, clearSeized, accessEvent, within, writeEvent, eventOf, put, highest, without, handover, activate, acquire, wait, withdraw, started, start, closed, obey, shut, step, fresh}
+use Rattle.arbiter.specs.Model.{Call, powerOn, reset, read, write, respond, pcrValue, interruptLine, mayReset, mayExtend, window, Model, Holder, free, held, Event, restart, hashStart, hashEnd, access, nothing, AccessBit, requestUse, release, seize, clearSeized, accessEvent, isHashStart, isHashEnd, writeEvent, eventOf, put, highest, without, handover, acquire, wait, withdraw, started, start, closed, obey, shut, step, fresh}
 use Rattle.arbiter.specs.Waits.{events, run, modelAfter}
 use Rattle.arbiter.proofs.ModelLaws.{clash, not-free, held-same, highest-free}
 
 pub record Sound (m : Model) : Type 0 where
-  pub idle : m .active ≡ free → (y : ℕ) → y < 5 → m .waiting y ≡ false
-  pub own : (y : ℕ) → y < 5 → m .active ≡ held y → m .waiting y ≡ false
-  pub launch : m .sequence ≡ true → m .active ≡ held 4
+  pub freeUnasked : m .active ≡ free → (y : ℕ) → y < 5 → m .waiting y ≡ false
+  pub activeUnasked : (y : ℕ) → y < 5 → m .active ≡ held y → m .waiting y ≡ false
+  pub openHeldBy4 : m .sequence ≡ true → m .active ≡ held 4
 
 -- an event of one of the five pages
 abbrev pub Paged : Event → Type 0
@@ -38,7 +38,7 @@ access-paged x v l = by (eqb (bit 5 v + bit 4 v + bit 3 v + bit 1 v) 1) (eqb (bi
     by false t₂ t₃ t₄ = tt
 
 write-paged : (o v : ℕ) → Paged (writeEvent o v)
-write-paged o v = by (within 0x4028 0x402b o) (within 0x4020 0x4023 o) (leb o 0x4fff) refl (eqb (o % 0x1000) 0)
+write-paged o v = by (isHashStart o) (isHashEnd o) (leb o 0x4fff) refl (eqb (o % 0x1000) 0)
   where
     by : (t₁ t₂ t₃ : Bool) → leb o 0x4fff ≡ t₃ → (t₄ : Bool) → Paged (cond t₁ hashStart (cond t₂ hashEnd (cond (t₃ && t₄) (accessEvent (o / 0x1000) v) nothing)))
     by true t₂ t₃ p t₄ = tt
@@ -64,7 +64,7 @@ paged window n = tt
 -- ---- each event keeps it
 
 pub sound-fresh : Sound fresh
-sound-fresh = record { idle = λ e y l. refl; own = λ y l e. refl; launch = λ e. absurd (clash (sym e)) }
+sound-fresh = record { freeUnasked = λ e y l. refl; activeUnasked = λ y l e. refl; openHeldBy4 = λ e. absurd (clash (sym e)) }
 
 put-clear : (w : ℕ → Bool) (x y : ℕ) → w y ≡ false → put w x false y ≡ false
 put-clear w x y h = by (eqb y x)
@@ -80,28 +80,28 @@ sound-handover : (m : Model) → m .sequence ≡ false → Sound (handover m)
 sound-handover m c = by (highest (m .waiting)) refl
   where
     by : (o : Holder) → highest (m .waiting) ≡ o → Sound (record { active = o; waiting = without o (m .waiting); sequence = m .sequence })
-    by free q = record { idle = λ e y l. highest-free 5 (m .waiting) q y l; own = λ y l e. absurd (not-free (sym e)); launch = λ e. absurd (clash (sym e ∙ c)) }
-    by (held h) q = record { idle = λ e y l. absurd (not-free e); own = λ y l e. put-here (m .waiting) h y (held-same e); launch = λ e. absurd (clash (sym e ∙ c)) }
+    by free q = record { freeUnasked = λ e y l. highest-free 5 (m .waiting) q y l; activeUnasked = λ y l e. absurd (not-free (sym e)); openHeldBy4 = λ e. absurd (clash (sym e ∙ c)) }
+    by (held h) q = record { freeUnasked = λ e y l. absurd (not-free e); activeUnasked = λ y l e. put-here (m .waiting) h y (held-same e); openHeldBy4 = λ e. absurd (clash (sym e ∙ c)) }
 
 sound-withdraw : (m : Model) (x : ℕ) (t : Bool) → Sound m → Sound (cond t (withdraw x m) m)
-sound-withdraw m x true s = record { idle = λ e y l. put-clear (m .waiting) x y (s .idle e y l); own = λ y l e. put-clear (m .waiting) x y (s .own y l e); launch = s .launch }
+sound-withdraw m x true s = record { freeUnasked = λ e y l. put-clear (m .waiting) x y (s .freeUnasked e y l); activeUnasked = λ y l e. put-clear (m .waiting) x y (s .activeUnasked y l e); openHeldBy4 = s .openHeldBy4 }
 sound-withdraw m x false s = s
 
 sound-start : (m : Model) (h : Holder) → m .active ≡ h → Sound m → Sound (start h m)
-sound-start m free q s = record { idle = λ e y l. absurd (not-free e); own = λ y l e. s .idle q y l; launch = λ e. refl }
+sound-start m free q s = record { freeUnasked = λ e y l. absurd (not-free e); activeUnasked = λ y l e. s .freeUnasked q y l; openHeldBy4 = λ e. refl }
 sound-start m (held z) q s = by (eqb z 4) refl
   where
     by : (t : Bool) → eqb z 4 ≡ t → Sound (cond t (started m) m)
-    by true p = record { idle = λ e y l. absurd (not-free e); own = λ y l e. s .own y l (q ∙ ap held (eqb-true z 4 p) ∙ e); launch = λ e. refl }
+    by true p = record { freeUnasked = λ e y l. absurd (not-free e); activeUnasked = λ y l e. s .activeUnasked y l (q ∙ ap held (eqb-true z 4 p) ∙ e); openHeldBy4 = λ e. refl }
     by false p = s
 
 -- x takes a device that is free or held by a lower locality
 sound-acquire : (m : Model) (x : ℕ) → (m .sequence ≡ true → ⊥) → Sound (acquire x m)
-sound-acquire m x n = record { idle = λ e y l. absurd (not-free e); own = λ y l e. put-here (m .waiting) x y (held-same e); launch = λ e. absurd (n e) }
+sound-acquire m x n = record { freeUnasked = λ e y l. absurd (not-free e); activeUnasked = λ y l e. put-here (m .waiting) x y (held-same e); openHeldBy4 = λ e. absurd (n e) }
 
 sound-obey : (m : Model) (a : AccessBit) (h : Holder) (x : ℕ) → m .active ≡ h → x < 5 → shut m x ≡ false → Sound m → Sound (obey a h x m)
 sound-obey m requestUse free x q l n s =
-    record { idle = λ e y l. absurd (not-free e); own = λ y l e. s .idle q y l; launch = λ e. absurd (not-free (sym (s .launch e) ∙ q)) }
+    record { freeUnasked = λ e y l. absurd (not-free e); activeUnasked = λ y l e. s .freeUnasked q y l; openHeldBy4 = λ e. absurd (not-free (sym (s .openHeldBy4 e) ∙ q)) }
 sound-obey m requestUse (held z) x q l n s = by (eqb z x) refl
   where
     keeps : eqb z x ≡ false → (y : ℕ) → m .active ≡ held y → m .waiting y ≡ false → put (m .waiting) x true y ≡ false
@@ -109,7 +109,7 @@ sound-obey m requestUse (held z) x q l n s = by (eqb z x) refl
 
     by : (t : Bool) → eqb z x ≡ t → Sound (cond t m (wait x m))
     by true p = s
-    by false p = record { idle = λ e y l. absurd (not-free (sym q ∙ e)); own = λ y l e. keeps p y e (s .own y l e); launch = s .launch }
+    by false p = record { freeUnasked = λ e y l. absurd (not-free (sym q ∙ e)); activeUnasked = λ y l e. keeps p y e (s .activeUnasked y l e); openHeldBy4 = s .openHeldBy4 }
 sound-obey m release free x q l n s = sound-withdraw m x (m .waiting x) s
 sound-obey m release (held z) x q l n s = by (eqb z x) refl
   where
@@ -117,17 +117,17 @@ sound-obey m release (held z) x q l n s = by (eqb z x) refl
     closed-then : z ≡ x → (t : Bool) → m .sequence ≡ t → m .sequence ≡ false
     closed-then e false p = p
     closed-then e true p =
-        let i : x ≡ 4 = sym e ∙ held-same (sym q ∙ s .launch p) in
+        let i : x ≡ 4 = sym e ∙ held-same (sym q ∙ s .openHeldBy4 p) in
         absurd (clash (sym (rw (p, eq-eqb x 4 i) refl) ∙ n))
 
     by : (t : Bool) → eqb z x ≡ t → Sound (cond t (handover m) (cond (m .waiting x) (withdraw x m) m))
     by true e = sound-handover m (closed-then (eqb-true z x e) (m .sequence) refl)
     by false e = sound-withdraw m x (m .waiting x) s
-sound-obey m seize free x q l n s = sound-acquire m x (λ e. not-free (sym (s .launch e) ∙ q))
+sound-obey m seize free x q l n s = sound-acquire m x (λ e. not-free (sym (s .openHeldBy4 e) ∙ q))
 sound-obey m seize (held z) x q l n s = by (ltb z x) refl
   where
     by : (t : Bool) → ltb z x ≡ t → Sound (cond t (acquire x m) m)
-    by true p = sound-acquire m x (λ e. let i : z ≡ 4 = held-same (sym q ∙ s .launch e) in omega (arith, ltb-true z x p))
+    by true p = sound-acquire m x (λ e. let i : z ≡ 4 = held-same (sym q ∙ s .openHeldBy4 e) in omega (arith, ltb-true z x p))
     by false p = s
 sound-obey m clearSeized h x q l n s = s
 

@@ -1,12 +1,12 @@
 -- What one event does to who waits, and what the highest waiting locality is. Assumes nothing.
-use mathlib.Core.Path.{_≡_, refl, sym, ap, _∙_}
+use mathlib.Core.Path.{_≡_, refl, sym}
 use mathlib.Core.Bool.{Bool, true, false, cond}
 use mathlib.Core.Logic.{_⊎_, inl, inr}
 use Prim.Native.Nat.{ℕ, zero, suc, _<_}
 use native.Mathlib.Omega.{arith}
 use native.Mathlib.Decide.{decLt}
 use lib.Dec.{eqb, ltb}
-use Rattle.arbiter.specs.Model.{Model, Holder, free, held, Event, restart, hashStart, hashEnd, access, nothing, AccessBit, requestUse, release, seize, clearSeized, nobody, put, highestBelow, highest, without, handover, activate, acquire, wait, withdraw, started, start, closed, obey, shut, step}
+use Rattle.arbiter.specs.Model.{Model, Holder, free, held, Event, restart, hashStart, hashEnd, access, nothing, AccessBit, requestUse, release, seize, clearSeized, nobody, put, highestBelow, highest, without, handover, acquire, wait, withdraw, started, start, closed, obey, shut, step}
 use Rattle.arbiter.specs.Waits.{gives, handsOver}
 
 pub clash : true ≡ false → ⊥

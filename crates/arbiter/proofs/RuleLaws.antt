@@ -4,8 +4,8 @@ use mathlib.Core.Bool.{Bool, true, false, cond}
 use mathlib.Core.List.{List}
 use Prim.Native.Nat.{ℕ, zero, suc, _-_, _<_, _≤_}
 use native.Mathlib.Omega.{arith}
-use lib.ListN.{getD, set}
-use lib.Dec.{eqb, ltb}
+use lib.ListN.{getD}
+use lib.Dec.{eqb}
 use borrow.Author.Tests.{eq-eqb, ne-eqb, lt-ltb, le-ltb}
 use Rattle.arbiter.specs.declared.Locality.{Locality}
 use Rattle.arbiter.specs.declared.Owner.{Owner}
@@ -101,8 +101,8 @@ module _ (s : Arbiter) (x : Locality) where
     release-nothing t w r e = e ∙ simp (sym is ∙ t, w)
 
   pub seize-free : s .active ≡ Nobody → (r : Change) → r ≡ requested s x → r ≡ seizedBy s x
-  unfolding seizedBy
-  seize-free e r p = p ∙ sym (ap (λ (o : Owner). seizeWith o s x) e)
+  unfolding seizedBy requested
+  seize-free e r p = p ∙ ap (λ (o : Owner). requestWith o s x) e ∙ sym (ap (λ (o : Owner). seizeWith o s x) e)
 
   pub seize-nothing : (y : Locality) → s .active ≡ Held y → x .0 ≤ y .0 → (r : Change) → r ≡ quietly s → r ≡ seizedBy s x
   unfolding seizedBy

@@ -2,7 +2,7 @@
 -- their arguments and their refusal numbers. It knows no device record and no stored flag. Assumes nothing.
 use Prim.Native.Nat.{ℕ, zero, suc, _+_, _/_, _%_}
 use mathlib.Core.Bool.{Bool, true, false, cond, _&&_}
-use mathlib.Core.List.{List, [], _∷_}
+use mathlib.Core.List.{List}
 use lib.Dec.{eqb, leb, ltb}
 use Rattle.arbiter.specs.Bits.{bit}
 
@@ -64,12 +64,22 @@ accessEvent x v =
 abbrev pub within : ℕ → ℕ → ℕ → Bool
 within a e o = leb a o && leb o e
 
--- "An accepted write, first that applies": hash start, hash end, ACCESS of one of the five pages
+-- "Only in page 4: 4020..4023 hash end, 4028..402B hash start"; ACCESS of one of the five pages
+abbrev pub isHashStart : ℕ → Bool
+isHashStart o = within 0x4028 0x402b o
+
+abbrev pub isHashEnd : ℕ → Bool
+isHashEnd o = within 0x4020 0x4023 o
+
+abbrev pub isAccess : ℕ → Bool
+isAccess o = leb o 0x4fff && eqb (o % 0x1000) 0
+
+-- "An accepted write, first that applies"; what it then does, and "Any other write in page 4 while open: nothing", is in `step`
 abbrev pub writeEvent : ℕ → ℕ → Event
 writeEvent o v =
-    cond (within 0x4028 0x402b o) hashStart
-    (cond (within 0x4020 0x4023 o) hashEnd
-    (cond (leb o 0x4fff && eqb (o % 0x1000) 0) (accessEvent (o / 0x1000) v)
+    cond (isHashStart o) hashStart
+    (cond (isHashEnd o) hashEnd
+    (cond (isAccess o) (accessEvent (o / 0x1000) v)
     nothing))
 
 -- "A power-on, refused or not, and an accepted reset" start anew. "Any other refused call changes nothing in it." "All else

@@ -1,6 +1,6 @@
 -- Who holds the device (document 01, 'Who holds the device'; TIS 11.3.10): the rules on the arbiter state. Assumes nothing.
 use Prim.Native.Nat.{ℕ, zero, suc, _+_}
-use mathlib.Core.Bool.{Bool, true, false, cond}
+use mathlib.Core.Bool.{Bool, true, false, cond, _||_}
 use mathlib.Core.List.{List}
 use lib.ListN.{getD, set, replicate}
 use lib.Dec.{eqb, ltb}
@@ -47,6 +47,10 @@ serving s = record { arbiter = s; emptied = true; served = true }
 -- does x wait
 abbrev pub waits : Arbiter → ℕ → Bool
 waits s x = getD (s .waiting) x false
+
+-- does anybody wait
+abbrev pub anyWaits : List Bool → Bool
+anyWaits w = getD w 0 false || getD w 1 false || getD w 2 false || getD w 3 false || getD w 4 false
 
 -- is x the active locality
 abbrev pub holds : Owner → Locality → Bool
@@ -97,7 +101,7 @@ released s x =
 -- "Bit 3, seize: free device, as a request; active y below x, y is marked seized, x becomes active and no longer waits; else
 -- nothing." "A seizure empties both FIFOs and sets Idle too."
 abbrev pub seizeWith : Owner → Arbiter → Locality → Change
-seizeWith Nobody s x = requested s x
+seizeWith Nobody s x = requestWith Nobody s x
 seizeWith (Held y) s x =
     cond (ltb (y .0) (x .0))
     (emptying (withSeized (withActive (withWaiting s (x .0) false) (Held x)) (y .0) true))

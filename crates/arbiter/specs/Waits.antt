@@ -1,6 +1,6 @@
 -- What demand 3 counts over a list of events of the waiting book: handovers, requests, and the part of the list while a locality
 -- waits. Assumes nothing.
-use Prim.Native.Nat.{ℕ, zero, suc, _+_, _-_, _*_}
+use Prim.Native.Nat.{ℕ, _+_, _-_, _*_}
 use mathlib.Core.Bool.{Bool, true, false, cond, not, _&&_}
 use mathlib.Core.List.{List, [], _∷_}
 use lib.Dec.{eqb}
@@ -19,7 +19,7 @@ run m (e ∷ es) = run (step m e) es
 unfoldable pub modelAfter : List (Call × ℕ) → Model
 modelAfter cs = run fresh (events cs)
 
--- is the event a handover: a release by the active locality, or the end of an open sequence
+-- does a write to ACCESS of page x give the device up
 abbrev pub gives : AccessBit → Holder → ℕ → Bool
 gives requestUse h x = false
 gives release free x = false
@@ -27,6 +27,7 @@ gives release (held y) x = eqb y x
 gives seize h x = false
 gives clearSeized h x = false
 
+-- is the event a handover: a release by the active locality, or the end of an open sequence
 abbrev pub handsOver : Model → Event → Bool
 handsOver m restart = false
 handsOver m hashStart = false

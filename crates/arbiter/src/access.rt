@@ -1,7 +1,7 @@
 // The rules of a write to ACCESS, on the arbiter state.
 ghost use mathlib.Core.Path.{_≡_};
 ghost use Prim.Native.Nat.{_<_};
-ghost use Rattle.arbiter.specs.Rules.{localities, commandOf, holds as holdsSpec, quietly as quietlySpec, requested, released, seizedBy, seizedCleared, accessWritten};
+ghost use Rattle.arbiter.specs.Rules.{localities, anyWaits, commandOf, holds as holdsSpec, quietly as quietlySpec, requested, released, seizedBy, seizedCleared, accessWritten};
 use crate::AccessCommand;
 use crate::Arbiter;
 use crate::Change;
@@ -39,6 +39,12 @@ pub fn holds(o: Owner, x: Locality) -> bool
         Owner::Nobody => false,
         Owner::Held(y) => y.0 == x.0,
     }
+}
+
+pub fn any_waits(w: [bool; 5]) -> bool
+    ensures { λ r. ⌜ r ≡ anyWaits w ⌝ }
+{
+    w[0] | w[1] | w[2] | w[3] | w[4]
 }
 
 // A state of which nothing is told.
