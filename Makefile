@@ -1,6 +1,25 @@
-# The commands of this repository: make test is the gate.
-.PHONY: test
+# The commands of this repository.
+.PHONY: test run bench
 
+CARGO_TARGET_DIR := $(CURDIR)/target/cargo
+export CARGO_TARGET_DIR
+HOST := --manifest-path host/Cargo.toml --offline
+
+# The gate: format, the host's own tests, SHA-1 against sha1sum, and then every proof, must-fail edit and program.
 test:
 	rt fmt --check
+	cargo test --quiet $(HOST)
+	tools/compare-sha1
 	rt ci
+
+# Shows each SHA-1 vector beside the expected value.
+run:
+	@echo 'proving and building sha1_vectors (about a minute the first time)'
+	@mkdir -p target
+	@rt check sha1_vectors >target/run.log 2>&1 || { cat target/run.log; exit 1; }
+	@target/bin/sha1_vectors
+
+# The proved SHA-1 beside an ordinary one, both built for release.
+bench:
+	rt staticlib sha1_exports
+	cargo run --quiet --release $(HOST) --features rattle --bin bench_sha1

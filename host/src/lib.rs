@@ -1,0 +1,2 @@
+//! The ordinary Rust that the proved code is measured and compared with.
+pub mod sha1;
