@@ -1,0 +1,12 @@
+// The numbers that document 01 bounds things by, each named once; crate specs has the same names.
+
+// C, the length of each lent FIFO.
+pub const FIFO_LEAST: usize = 1024;
+
+pub const FIFO_GREATEST: u16 = 4096;
+
+// The shortest command that runs and the shortest answer.
+pub const HEADER: u16 = 10;
+
+// The bytes that a hash sequence takes.
+pub const HASH_LIMIT: u32 = 1_048_576;
