@@ -1,0 +1,19 @@
+-- What ACCESS reads (document 01, 'Who holds the device'; TIS 11.3.10). Assumes nothing.
+use Prim.Native.Nat.{ℕ, _+_}
+use mathlib.Core.Bool.{Bool, false, cond, not}
+use lib.ListN.{getD}
+use Rattle.arbiter.specs.Rules.{waits, holds, anyWaits}
+use Rattle.arbiter.specs.declared.Locality.{Locality}
+use Rattle.arbiter.specs.declared.Arbiter.{Arbiter}
+
+-- bit 2 of page x: "pendingRequest, 1 while any request stands"
+abbrev pub pendingRequest : Arbiter → Locality → Bool
+pendingRequest s x = anyWaits (s .waiting)
+
+-- "bit 7 always 1; 5 this locality active; 4 it was seized; 2 pendingRequest ..; 1 this locality waits; 0 the inverse of established.
+-- Bits 6 and 3 read 0."
+unfoldable pub accessByte : Arbiter → Bool → Locality → ℕ
+accessByte s established x =
+    0x80 + cond (holds (s .active) x) 0x20 0 + cond (getD (s .seized) (x .0) false) 0x10 0 + cond (pendingRequest s x) 0x04 0
+    + cond (waits s (x .0)) 0x02 0
+    + cond (not established) 0x01 0
