@@ -1,0 +1,21 @@
+-- `command::fifos::read_fifo` meets its contract. Assumes nothing.
+use Rattle.command.proofs.PhaseLaws.{fifo-case}
+use borrow.Author.Needs.{needs}
+use Rattle.command.proofs.fifos.read_fifo.Statement.{statement}
+use Rattle.command.proofs.fifos.read_fifo.Tie as tie
+
+pub read-fifo-spec : {M : Type 1} → statement M
+read-fifo-spec =
+    tie.close
+    (tie.spec
+    (λ c. search needs)
+    (λ c. search needs)
+    (λ c. search needs)
+    (λ c. search needs)
+    (λ c. search needs)
+    (λ c κs. search needs)
+    (λ c. search needs)
+    (λ c. search needs)
+    (λ c. search needs)
+    (λ c. search needs)
+    (λ c. search (needs, fifo-case)))

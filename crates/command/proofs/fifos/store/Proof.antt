@@ -1,0 +1,14 @@
+-- `command::fifos::store` meets its contract. Assumes nothing.
+use Rattle.command.proofs.FifoLaws.{store-out}
+use borrow.Author.Needs.{needs}
+use Rattle.command.proofs.fifos.store.Statement.{statement}
+use Rattle.command.proofs.fifos.store.Tie as tie
+
+pub store-spec : {M : Type 1} → statement M
+store-spec =
+    tie.close
+    (tie.spec
+    (λ c. search needs)
+    (λ c. search needs)
+    (λ c. search needs)
+    (λ c. search (needs, store-out)))

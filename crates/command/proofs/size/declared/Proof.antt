@@ -1,0 +1,26 @@
+-- `command::size::declared` meets its contract. Assumes nothing.
+use Rattle.command.specs.Size.{declared}
+use borrow.Author.Needs.{needs}
+use Rattle.command.proofs.size.declared.Statement.{statement}
+use Rattle.command.proofs.size.declared.Tie as tie
+
+pub declared-spec : {M : Type 1} → statement M
+unfolding declared
+declared-spec =
+    tie.close
+    (tie.spec
+    (λ c. search needs)
+    (λ c κs. search needs)
+    (λ c. search needs)
+    (λ c. search needs)
+    (λ c κs. search needs)
+    (λ c. search needs)
+    (λ c. search needs)
+    (λ c. search needs)
+    (λ c κs. search needs)
+    (λ c. search needs)
+    (λ c. search needs)
+    (λ c. search needs)
+    (λ c κs. search needs)
+    (λ c. search needs)
+    (λ c. cc))

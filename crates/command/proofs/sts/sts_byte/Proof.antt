@@ -1,0 +1,17 @@
+-- `command::sts::sts_byte` meets its contract. Assumes nothing.
+use Rattle.command.proofs.PhaseLaws.{sts-first, sts-second, sts-third}
+use borrow.Author.Needs.{needs}
+use Rattle.command.proofs.sts.sts_byte.Statement.{statement}
+use Rattle.command.proofs.sts.sts_byte.Tie as tie
+
+pub sts-byte-spec : {M : Type 1} → statement M
+sts-byte-spec =
+    tie.close
+    (tie.spec
+    (λ c κs. search needs)
+    (λ c. search (needs, sts-first))
+    (λ c κs. search needs)
+    (λ c. search needs)
+    (λ c. search (needs, sts-second))
+    (λ c. search needs)
+    (λ c. search (needs, sts-third)))

@@ -1,0 +1,3 @@
+pub mod Size
+pub mod Sts
+pub mod Fifos
