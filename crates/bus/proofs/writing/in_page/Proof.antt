@@ -1,0 +1,14 @@
+-- `bus::writing::in_page` meets its contract. Assumes nothing.
+use Rattle.bus.proofs.CycleLaws.{page-closed, page-open}
+use borrow.Author.Needs.{needs}
+use Rattle.bus.proofs.writing.in_page.Statement.{statement}
+use Rattle.bus.proofs.writing.in_page.Tie as tie
+
+pub in-page-spec : {M : Type 1} → statement M
+in-page-spec =
+    tie.close
+    (tie.spec
+    (λ c κs. search needs)
+    (λ c. search (needs, page-closed))
+    (λ c κs. search needs)
+    (λ c. search (needs, page-open)))

@@ -1,0 +1,17 @@
+-- `bus::writing::status` meets its contract. Assumes nothing.
+use Rattle.bus.proofs.CycleLaws.{active-sets, other-ignored}
+use borrow.Author.Needs.{needs}
+use Rattle.bus.proofs.writing.status.Statement.{statement}
+use Rattle.bus.proofs.writing.status.Tie as tie
+
+pub status-spec : {M : Type 1} → statement M
+status-spec =
+    tie.close
+    (tie.spec
+    (λ c κs. search needs)
+    (λ c κs. search needs)
+    (λ c κs. search needs)
+    (λ c κs. search needs)
+    (λ c. search (needs, active-sets))
+    (λ c κs. search needs)
+    (λ c. search (needs, other-ignored)))
