@@ -1,0 +1,20 @@
+-- `tis::answer::respond` meets its contract. Assumes nothing.
+use Rattle.tis.proofs.CallLaws.{leave, respond-refused, respond-accepted}
+use Rattle.tis.proofs.RefusalLaws.{answer-fits, answer-counts}
+use borrow.Author.Needs.{needs}
+use Rattle.tis.proofs.answer.respond.Statement.{statement}
+use Rattle.tis.proofs.answer.respond.Tie as tie
+
+pub respond-spec : {M : Type 1} → statement M
+respond-spec =
+    tie.close
+    (tie.spec
+    (λ c κs. search needs)
+    (λ c. leave _ _ _ _ (search (needs, respond-refused)))
+    (λ c κs. search needs)
+    (λ c κs. search (needs, answer-fits))
+    (λ c. search (needs, answer-counts))
+    (λ c κs. search needs)
+    (λ c. search needs)
+    (λ c. search needs)
+    (λ c. leave _ _ _ _ (search (needs, respond-accepted))))

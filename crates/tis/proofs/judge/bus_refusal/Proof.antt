@@ -1,0 +1,14 @@
+-- `tis::judge::bus_refusal` meets its contract. Assumes nothing.
+use Rattle.tis.proofs.RefusalLaws.{bus-lent, bus-offset, bus-accepted}
+use borrow.Author.Needs.{needs}
+use Rattle.tis.proofs.judge.bus_refusal.Statement.{statement}
+use Rattle.tis.proofs.judge.bus_refusal.Tie as tie
+
+pub bus-refusal-spec : {M : Type 1} → statement M
+bus-refusal-spec =
+    tie.close
+    (tie.spec
+    (λ c κs. search needs)
+    (λ c. search (needs, bus-lent))
+    (λ c. search (needs, bus-offset))
+    (λ c. search (needs, bus-accepted)))

@@ -1,0 +1,15 @@
+-- `tis::judge::pcr_refusal` meets its contract. Assumes nothing.
+use Rattle.tis.proofs.RefusalLaws.{pcr-shape, pcr-question, pcr-accepted}
+use borrow.Author.Needs.{needs}
+use Rattle.tis.proofs.judge.pcr_refusal.Statement.{statement}
+use Rattle.tis.proofs.judge.pcr_refusal.Tie as tie
+
+pub pcr-refusal-spec : {M : Type 1} → statement M
+pcr-refusal-spec =
+    tie.close
+    (tie.spec
+    (λ c κs. search needs)
+    (λ c. search (needs, pcr-shape))
+    (λ c. search needs)
+    (λ c. search (needs, pcr-question))
+    (λ c. search (needs, pcr-accepted)))

@@ -1,0 +1,18 @@
+-- `tis::power::reset` meets its contract. Assumes nothing.
+use Rattle.tis.proofs.CallLaws.{leave, reset-refused, reset-accepted}
+use borrow.Author.Needs.{needs}
+use Rattle.tis.proofs.power.reset.Statement.{statement}
+use Rattle.tis.proofs.power.reset.Tie as tie
+
+pub reset-spec : {M : Type 1} → statement M
+reset-spec =
+    tie.close
+    (tie.spec
+    (λ c κs. search needs)
+    (λ c. leave _ _ _ _ (search (needs, reset-refused)))
+    (λ c κs. search needs)
+    (λ c κs. search needs)
+    (λ c κs. search needs)
+    (λ c. search needs)
+    (λ c. search needs)
+    (λ c. leave _ _ _ _ (search (needs, reset-accepted))))

@@ -1,0 +1,7 @@
+pub mod Refusals
+pub mod Result
+pub mod Power
+pub mod Cycles
+pub mod Answer
+pub mod Questions
+pub mod Streams
