@@ -6,3 +6,4 @@ pub mod KeepsModel
 pub mod Demand3
 pub mod Launches
 pub mod StaleAnswers
+pub mod Residue
