@@ -33,7 +33,7 @@ use Rattle.tis.specs.declared.ReadOutcome.{ReadOutcome}
 use Rattle.tis.specs.declared.Span.{Span}
 use Rattle.tis.specs.Answer.{respondRefusal, completed, responded}
 use Rattle.tis.specs.Questions.{askRefusal, pcrOutcome, pcrAsked, noSpan, spanIn, windowSpan, Shows, Window}
-use Rattle.tis.proofs.RefusalLaws.{both-true, Lengths, lent-lengths, lent-shaped, clauses}
+use Rattle.judge.proofs.RefusalLaws.{both-true, Lengths, lent-lengths, lent-shaped, clauses}
 use Rattle.tis.specs.Result.{Result, result, Leaves}
 use Rattle.tis.specs.Power.{poweredOn, refusalOf, afterReset}
 use Rattle.tis.specs.Cycles.{cycleRefusal, pageAt, registerFor, readOutcome, readAt, busRead, stepAt, writtenAt, acceptedWrite, busWrite}

@@ -9,7 +9,7 @@ use Rattle.arbiter.specs.Model.{Event, hashStart, hashEnd, nothing, accessEvent
 use Rattle.registers.specs.Map.{pageOf, placeOf, registerAbove, registerAt}
 use Rattle.registers.specs.declared.Register.{Register}
 use Rattle.registers.specs.declared.Register.the-variants.{Access, IntEnable, IntVector, IntStatus, Capability, Sts, Fifo, Identity, HashEnd, HashStart, Hole}
-use Rattle.tis.specs.Refusals.{lastOffset}
+use Rattle.judge.specs.Refusals.{lastOffset}
 use Rattle.tis.specs.Cycles.{registerFor}
 
 -- what a write of v to a register of page x is to the model

@@ -37,12 +37,12 @@ use Rattle.launch.specs.declared.HashStep.{HashStep}
 use Rattle.launch.specs.declared.HashStep.the-variants.{NoStep, Start, Data, End}
 use Rattle.launch.specs.Launch.{hashStep, hashFull, launchAfter}
 use Rattle.tis.specs.Result.{Result, result}
-use Rattle.tis.specs.Refusals.{lastOffset}
+use Rattle.judge.specs.Refusals.{lastOffset}
 use Rattle.tis.specs.Power.{poweredOn, refusalOf, afterReset}
 use Rattle.tis.specs.Cycles.{cycleRefusal, pageAt, registerFor, readOutcome, readAt, busRead, effectAt, stepAt, writtenAt, acceptedWrite, busWrite}
 use Rattle.tis.specs.Answer.{respondRefusal, completed, responded}
 use Rattle.tis.specs.declared.ReadOutcome.{ReadOutcome}
-use Rattle.tis.proofs.RefusalLaws.{bus-then}
+use Rattle.judge.proofs.RefusalLaws.{bus-then}
 use Rattle.tis.proofs.Decoding.{eventFor, decoded}
 
 -- the record's active locality, waiting flags and sequence are the model's

@@ -38,12 +38,12 @@ use Rattle.launch.specs.declared.HashStep.the-variants.{NoStep, Start, Data, En
 use Rattle.launch.specs.Launch.{hashStep, hashFull, launchAfter, pcrsAfter}
 use Rattle.tis.specs.declared.ReadOutcome.{ReadOutcome}
 use Rattle.tis.specs.Result.{Result, result}
-use Rattle.tis.specs.Refusals.{lastOffset}
+use Rattle.judge.specs.Refusals.{lastOffset}
 use Rattle.tis.specs.Power.{poweredOn, refusalOf, afterReset}
 use Rattle.tis.specs.Cycles.{cycleRefusal, pageAt, registerFor, readOutcome, readAt, busRead, stepAt, writtenAt, acceptedWrite, busWrite}
 use Rattle.tis.specs.Answer.{respondRefusal, completed, responded}
 use Rattle.tis.specs.Streams.{isData, startCounts, streamWritten, streamStep, streamAfter}
-use Rattle.tis.proofs.RefusalLaws.{bus-then}
+use Rattle.judge.proofs.RefusalLaws.{bus-then}
 use Rattle.tis.proofs.Calls.{State, Step, powersOn, resets, reads, writes, responds, asksPcr, asksLine, asksReset, asksExtend, looks, Runs, none, more}
 use Rattle.tis.proofs.Decoding.{not-within, in-within, on-less, on-equal, eventFor, decoded, at-end, at-start}
 use Rattle.tis.proofs.KeepsModel.{Keeps}

@@ -1,4 +1,3 @@
-pub mod RefusalLaws
 pub mod CallLaws
 pub mod Calls
 pub mod Decoding

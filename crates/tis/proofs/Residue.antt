@@ -43,13 +43,13 @@ use Rattle.bus.specs.declared.Effect.{Effect}
 use Rattle.bus.specs.Change.{effect, ignored, arbitratedControl, arbitrated, commandedEffect}
 use Rattle.bus.specs.Reading.{phaseAfter}
 use Rattle.bus.specs.Writing.{ifActive, closedPage, inPage, ordinary, writeEffect}
-use Rattle.tis.specs.Refusals.{lentRefusal, answerRefusal}
+use Rattle.judge.specs.Refusals.{lentRefusal, answerRefusal}
 use Rattle.tis.specs.Result.{Result, result}
 use Rattle.tis.specs.Power.{poweredOn, refusalOf, afterReset}
 use Rattle.tis.specs.Cycles.{cycleRefusal, pageAt, registerFor, readOutcome, readAt, busRead, stepAt, writtenAt, acceptedWrite, busWrite}
 use Rattle.tis.specs.Answer.{respondRefusal, completed, responded}
 use Rattle.launch.specs.Launch.{hashFull}
-use Rattle.tis.proofs.RefusalLaws.{allowed-lengths, answer-fits}
+use Rattle.judge.proofs.RefusalLaws.{allowed-lengths, answer-fits}
 use Rattle.tis.proofs.Calls.{State, state, Step, powersOn, resets, reads, writes, responds, asksPcr, asksLine, asksReset, asksExtend, looks, Runs, none, more}
 use Rattle.tis.proofs.Demand3.{activeIn}
 

@@ -39,7 +39,7 @@ use Rattle.bus.specs.Writing.{ifActive, closedPage, inPage, ordinary, writeEffe
 use Rattle.bus.specs.declared.Effect.{Effect}
 use Rattle.launch.specs.Launch.{hashFull}
 use Rattle.tis.specs.declared.ReadOutcome.{ReadOutcome}
-use Rattle.tis.specs.Refusals.{executes, lentRefusal, answerRefusal}
+use Rattle.judge.specs.Refusals.{executes, lentRefusal, answerRefusal}
 use Rattle.tis.specs.Result.{Result, result}
 use Rattle.tis.specs.Power.{poweredOn, refusalOf, afterReset}
 use Rattle.tis.specs.Cycles.{cycleRefusal, pageAt, registerFor, readOutcome, readAt, busRead, effectAt, stepAt, writtenAt, acceptedWrite, busWrite}

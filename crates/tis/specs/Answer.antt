@@ -11,7 +11,7 @@ use Rattle.record.specs.declared.Phase.the-variants.{Completion}
 use Rattle.command.specs.Sts.{availCause}
 use Rattle.command.specs.Fifos.{emptied, answered}
 use Rattle.bus.specs.Change.{marked, withInterrupts}
-use Rattle.tis.specs.Refusals.{answerRefusal}
+use Rattle.judge.specs.Refusals.{answerRefusal}
 use Rattle.tis.specs.Result.{Result, result}
 
 abbrev pub respondRefusal : Device → List ℕ → List ℕ → ℕ → List ℕ → ℕ

@@ -17,7 +17,7 @@ use Rattle.bus.specs.Writing.{writeEffect}
 use Rattle.bus.specs.declared.Effect.{Effect}
 use Rattle.launch.specs.Launch.{hashStep, hashFull, launchAfter, pcrsAfter}
 use Rattle.launch.specs.declared.HashStep.{HashStep}
-use Rattle.tis.specs.Refusals.{busRefusal}
+use Rattle.judge.specs.Refusals.{busRefusal}
 use Rattle.tis.specs.Result.{Result, result}
 use Rattle.tis.specs.declared.ReadOutcome.{ReadOutcome}
 

@@ -1,4 +1,3 @@
-pub mod Refusals
 pub mod Result
 pub mod Power
 pub mod Cycles

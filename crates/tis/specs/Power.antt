@@ -9,7 +9,7 @@ use Rattle.record.specs.Record.{freshDevice}
 use Rattle.record.specs.Shape.{lengthsAllowed}
 use Rattle.record.specs.declared.Device.{Device}
 use Rattle.command.specs.Fifos.{emptied}
-use Rattle.tis.specs.Refusals.{lentRefusal}
+use Rattle.judge.specs.Refusals.{lentRefusal}
 use Rattle.tis.specs.Result.{Result, result}
 
 -- "Power-on knows only 2"; "a refused power-on gives the fresh record and leaves the FIFOs alone"

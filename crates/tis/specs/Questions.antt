@@ -12,7 +12,7 @@ use Rattle.record.specs.declared.Device.{Device}
 use Rattle.record.specs.declared.Phase.{Phase}
 use Rattle.record.specs.declared.Phase.the-variants.{Idle, Ready, Reception, Execution, Completion}
 use Rattle.registers.specs.Interrupts.{lineOf}
-use Rattle.tis.specs.Refusals.{pcrRefusal}
+use Rattle.judge.specs.Refusals.{pcrRefusal}
 use Rattle.tis.specs.Power.{refusalOf}
 use Rattle.tis.specs.declared.PcrOutcome.{PcrOutcome}
 use Rattle.tis.specs.declared.Span.{Span}

@@ -3,7 +3,6 @@ use record::Device;
 
 mod answer;
 mod cycles;
-mod judge;
 mod power;
 mod questions;
 

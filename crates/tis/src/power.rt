@@ -3,8 +3,8 @@ ghost use mathlib.Core.Path.{_≡_};
 ghost use Rattle.tis.specs.Result.{Leaves};
 ghost use Rattle.tis.specs.Power.{poweredOn, afterReset};
 use crate::Outcome;
-use crate::judge::lent_refusal;
 use command::fifos::empty;
+use judge::lent_refusal;
 use record::Device;
 use record::shape::lengths_allowed;
 

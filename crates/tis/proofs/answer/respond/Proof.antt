@@ -1,6 +1,6 @@
 -- `tis::answer::respond` meets its contract. Assumes nothing.
 use Rattle.tis.proofs.CallLaws.{leave, respond-refused, respond-accepted}
-use Rattle.tis.proofs.RefusalLaws.{answer-fits, answer-counts}
+use Rattle.judge.proofs.RefusalLaws.{answer-fits, answer-counts}
 use borrow.Author.Needs.{needs}
 use Rattle.tis.proofs.answer.respond.Statement.{statement}
 use Rattle.tis.proofs.answer.respond.Tie as tie

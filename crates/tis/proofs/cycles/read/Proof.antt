@@ -1,6 +1,6 @@
 -- `tis::cycles::read` meets its contract. Assumes nothing.
 use Rattle.tis.proofs.CallLaws.{read-refused, read-accepted}
-use Rattle.tis.proofs.RefusalLaws.{cycle-fits, cycle-page, cycle-least, cycle-greatest}
+use Rattle.judge.proofs.RefusalLaws.{cycle-fits, cycle-page, cycle-least, cycle-greatest}
 use borrow.Author.Needs.{needs}
 use Rattle.tis.proofs.cycles.read.Statement.{statement}
 use Rattle.tis.proofs.cycles.read.Tie as tie

@@ -1,6 +1,6 @@
 -- `tis::cycles::write` meets its contract. Assumes nothing.
 use Rattle.tis.proofs.CallLaws.{leave, leave-same, write-refused, write-accepted}
-use Rattle.tis.proofs.RefusalLaws.{cycle-fits, cycle-page, cycle-least, cycle-greatest, cycle-equal}
+use Rattle.judge.proofs.RefusalLaws.{cycle-fits, cycle-page, cycle-least, cycle-greatest, cycle-equal}
 use borrow.Author.Needs.{needs}
 use Rattle.tis.proofs.cycles.write.Statement.{statement}
 use Rattle.tis.proofs.cycles.write.Tie as tie

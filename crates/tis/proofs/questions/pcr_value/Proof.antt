@@ -1,6 +1,6 @@
 -- `tis::questions::pcr_value` meets its contract. Assumes nothing.
 use Rattle.tis.proofs.CallLaws.{pcr-refused, pcr-read}
-use Rattle.tis.proofs.RefusalLaws.{pcr-below}
+use Rattle.judge.proofs.RefusalLaws.{pcr-below}
 use borrow.Author.Needs.{needs}
 use Rattle.tis.proofs.questions.pcr_value.Statement.{statement}
 use Rattle.tis.proofs.questions.pcr_value.Tie as tie

@@ -1,8 +1,8 @@
--- `tis::judge::bus_refusal` meets its contract. Assumes nothing.
-use Rattle.tis.proofs.RefusalLaws.{bus-lent, bus-offset, bus-accepted}
+-- `judge::bus_refusal` meets its contract. Assumes nothing.
+use Rattle.judge.proofs.RefusalLaws.{bus-lent, bus-offset, bus-accepted}
 use borrow.Author.Needs.{needs}
-use Rattle.tis.proofs.judge.bus_refusal.Statement.{statement}
-use Rattle.tis.proofs.judge.bus_refusal.Tie as tie
+use Rattle.judge.proofs.bus_refusal.Statement.{statement}
+use Rattle.judge.proofs.bus_refusal.Tie as tie
 
 pub bus-refusal-spec : {M : Type 1} → statement M
 bus-refusal-spec =

@@ -1,8 +1,8 @@
--- `tis::judge::pcr_refusal` meets its contract. Assumes nothing.
-use Rattle.tis.proofs.RefusalLaws.{pcr-shape, pcr-question, pcr-accepted}
+-- `judge::pcr_refusal` meets its contract. Assumes nothing.
+use Rattle.judge.proofs.RefusalLaws.{pcr-shape, pcr-question, pcr-accepted}
 use borrow.Author.Needs.{needs}
-use Rattle.tis.proofs.judge.pcr_refusal.Statement.{statement}
-use Rattle.tis.proofs.judge.pcr_refusal.Tie as tie
+use Rattle.judge.proofs.pcr_refusal.Statement.{statement}
+use Rattle.judge.proofs.pcr_refusal.Tie as tie
 
 pub pcr-refusal-spec : {M : Type 1} → statement M
 pcr-refusal-spec =

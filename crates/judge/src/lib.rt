@@ -1,6 +1,6 @@
-// The tests of each call, in document 01's order.
+// The tests of each call, in document 01's order (document 01, 'When the front says no').
 ghost use mathlib.Core.Path.{_≡_};
-ghost use Rattle.tis.specs.Refusals.{lentRefusal, busRefusal, executes as executesSpec, answerRefusal, pcrRefusal};
+ghost use Rattle.judge.specs.Refusals.{lentRefusal, busRefusal, executes as executesSpec, answerRefusal, pcrRefusal};
 use arbiter::Arbiter;
 use pcr::PCRS;
 use pcr::PcrIndex;

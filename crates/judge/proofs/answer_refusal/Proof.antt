@@ -1,8 +1,8 @@
--- `tis::judge::answer_refusal` meets its contract. Assumes nothing.
-use Rattle.tis.proofs.RefusalLaws.{answer-lent, answer-run, answer-length, answer-accepted}
+-- `judge::answer_refusal` meets its contract. Assumes nothing.
+use Rattle.judge.proofs.RefusalLaws.{answer-lent, answer-run, answer-length, answer-accepted}
 use borrow.Author.Needs.{needs}
-use Rattle.tis.proofs.judge.answer_refusal.Statement.{statement}
-use Rattle.tis.proofs.judge.answer_refusal.Tie as tie
+use Rattle.judge.proofs.answer_refusal.Statement.{statement}
+use Rattle.judge.proofs.answer_refusal.Tie as tie
 
 pub answer-refusal-spec : {M : Type 1} → statement M
 answer-refusal-spec =

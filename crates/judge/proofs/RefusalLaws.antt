@@ -11,7 +11,7 @@ use Rattle.pcr.specs.Bank.{pcrs}
 use Rattle.record.specs.Limits.{fifoLeast, fifoGreatest, header, hashLimit}
 use Rattle.record.specs.Shape.{lengthsAllowed, activeKnown, freeUnasked, activeUnasked, phasePlaced, countsFit, sequencePlaced, hashCounted, inShape}
 use Rattle.record.specs.declared.Phase.{Phase}
-use Rattle.tis.specs.Refusals.{lentRefusal, lastOffset, busRefusal, executes, answerRefusal, pcrRefusal}
+use Rattle.judge.specs.Refusals.{lentRefusal, lastOffset, busRefusal, executes, answerRefusal, pcrRefusal}
 
 pub both-true : (a b : Bool) → (a && b) ≡ true → (a ≡ true) × (b ≡ true)
 both-true true b e = (refl, e)

@@ -1,8 +1,8 @@
--- `tis::judge::lent_refusal` meets its contract. Assumes nothing.
-use Rattle.tis.proofs.RefusalLaws.{allowed-fits, lent-length, lent-shape, lent-accepted}
+-- `judge::lent_refusal` meets its contract. Assumes nothing.
+use Rattle.judge.proofs.RefusalLaws.{allowed-fits, lent-length, lent-shape, lent-accepted}
 use borrow.Author.Needs.{needs}
-use Rattle.tis.proofs.judge.lent_refusal.Statement.{statement}
-use Rattle.tis.proofs.judge.lent_refusal.Tie as tie
+use Rattle.judge.proofs.lent_refusal.Statement.{statement}
+use Rattle.judge.proofs.lent_refusal.Tie as tie
 
 pub lent-refusal-spec : {M : Type 1} → statement M
 lent-refusal-spec =
