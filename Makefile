@@ -5,10 +5,10 @@ CARGO_TARGET_DIR := $(CURDIR)/target/cargo
 export CARGO_TARGET_DIR
 HOST := --manifest-path host/Cargo.toml --offline
 
-# The gate: format, the host's own tests, SHA-1 against sha1sum, and then every proof, must-fail edit and program.
+# The gate: format, the yardstick's own tests, SHA-1 against sha1sum, and then every proof, must-fail edit and program.
 test:
 	rt fmt --check
-	cargo test --quiet $(HOST)
+	cargo test --quiet --manifest-path yardstick/Cargo.toml --offline
 	tools/compare-sha1
 	rt ci
 

@@ -1,5 +1,5 @@
 //! Times the proved SHA-1 and the ordinary one on 1 MiB, in turn, and prints the medians with their ratio.
-use host::sha1::{hash, Sha1};
+use yardstick::sha1::{sha1, Sha1};
 use std::hint::black_box;
 use std::time::Instant;
 
@@ -24,9 +24,9 @@ fn proved_by_byte(m: &[u8]) -> [u8; 20] {
 }
 
 fn ordinary_by_byte(m: &[u8]) -> [u8; 20] {
-    let mut sha1 = Sha1::new();
-    m.iter().for_each(|&byte| sha1.push(byte));
-    sha1.finish()
+    let mut stream = Sha1::new();
+    m.iter().for_each(|&byte| stream.push(byte));
+    stream.digest()
 }
 
 fn seconds(f: fn(&[u8]) -> [u8; 20], m: &[u8]) -> f64 {
@@ -56,6 +56,6 @@ fn main() {
     let message: Vec<u8> = (0..1u32 << 20).map(|n| (n.wrapping_mul(2_654_435_761) >> 24) as u8).collect();
     println!("SHA-1 of 1 MiB, median of {RUNS} runs; ratio of times, proved to ordinary");
     println!("{:<20}{:>12}{:>12}{:>10}", "", "proved MB/s", "Rust MB/s", "ratio");
-    compare("at once", proved_at_once, hash, &message);
+    compare("at once", proved_at_once, sha1, &message);
     compare("byte by byte", proved_by_byte, ordinary_by_byte, &message);
 }

@@ -1,2 +1,0 @@
-//! The ordinary Rust that the proved code is measured and compared with.
-pub mod sha1;
