@@ -138,7 +138,7 @@ stands-fresh : (established : Bool) (identity : List ℕ) (run : ℕ) (bs : List
 unfolding freshDevice
 stands-fresh established identity run bs = stands-closed _ bs refl refl
 
-counts-same : {m : Model} {s : Arbiter} {o : Bool} → Agrees m s o → hashStarted s .emptied ≡ startCounts (m .active)
+pub counts-same : {m : Model} {s : Arbiter} {o : Bool} → Agrees m s o → hashStarted s .emptied ≡ startCounts (m .active)
 unfolding hashStarted
 counts-same {m} {s} a = by (s .active) ∙ ap startCounts (sym (a .active))
   where
@@ -307,12 +307,12 @@ module _ (m : Model) (d : Device) (a : Keeps m d) (v : ℕ) where
       (ap (λ (z : List ℕ). replaced (d .pcrs) 17 (sha1 (valueAt (d .pcrs) 17 ++ z))) (ap finishOf (t .opened (sym (a .sequenceOpen) ∙ e)) ∙ digest bs))
 
 -- a write: accepted, with the PCRs that its step leaves, or refused, with the record as it was
-unfoldable Wrote : Device → ℕ → Result → Type 0
+unfoldable pub Wrote : Device → ℕ → Result → Type 0
 Wrote d o t =
     ((t .refusal ≡ accepted) × (o ≤ lastOffset) × (t .device .pcrs ≡ pcrsAfter (stepAt (registerFor o) (pageAt o) d) (d .launch) (d .pcrs)))
     ⊎ ((t .refusal ≡ accepted → ⊥) × (t .device ≡ d))
 
-wrote : (d : Device) (w r : List ℕ) (o v : ℕ) → Wrote d o (busWrite d w r o v)
+pub wrote : (d : Device) (w r : List ℕ) (o v : ℕ) → Wrote d o (busWrite d w r o v)
 unfolding busWrite acceptedWrite writtenAt Wrote
 wrote d w r o v = by (eqb (cycleRefusal d w r o) accepted) refl (hashFull (stepAt (registerFor o) (pageAt o) d) (d .launch .stream .count))
   where
@@ -391,14 +391,14 @@ step-starts m a (writes κs d w w′ r r′ o v t p) z i j e =
     ∙ write-pcrs-by m d a (now w) (now r) o v (stepAt HashStart (pageAt o) d) (ap (λ (g : Register). stepAt g (pageAt o) d) (at-start o i j)) (sym (p .refusal) ∙ z)
     ∙ pcrs-started m d a v (pageAt o) e
 
-step-measures : {o v n : ℕ} {s s′ : State} (m : Model) (bs : List ℕ) → Keeps m (s .device) → Stands (s .device .launch) bs → Step (write o v) s n s′ → n ≡ accepted
+pub step-measures : {o v n : ℕ} {s s′ : State} (m : Model) (bs : List ℕ) → Keeps m (s .device) → Stands (s .device .launch) bs → Step (write o v) s n s′ → n ≡ accepted
     → 0x4020 ≤ o → o ≤ 0x4023 → m .sequence ≡ true → s′ .device .pcrs ≡ replaced (s .device .pcrs) 17 (sha1 (valueAt (s .device .pcrs) 17 ++ sha1 bs))
 step-measures m bs a t (writes κs d w w′ r r′ o v u p) z i j e =
     ap (λ (k : Device). k .pcrs) (p .device)
     ∙ write-pcrs-by m d a (now w) (now r) o v (stepAt HashEnd (pageAt o) d) (ap (λ (g : Register). stepAt g (pageAt o) d) (at-end o i j)) (sym (p .refusal) ∙ z)
     ∙ pcrs-measured m d a v (pageAt o) bs t e
 
-step-keeps : {c : Call} {n : ℕ} {s s′ : State} (m : Model) → Keeps m (s .device) → Step c s n s′ → changesPcrs m (eventOf c n) ≡ false → s′ .device .pcrs ≡ s .device .pcrs
+pub step-keeps : {c : Call} {n : ℕ} {s s′ : State} (m : Model) → Keeps m (s .device) → Step c s n s′ → changesPcrs m (eventOf c n) ≡ false → s′ .device .pcrs ≡ s .device .pcrs
 step-keeps m a (powersOn κs d e i w w′ r r′ o p) q = absurd (true≢false q)
 step-keeps m a (resets κs d w w′ r r′ o p) q =
     ap (λ (k : Device). k .pcrs) (p .device) ∙ reset-pcrs m d (now w) (now r) (ap (λ (k : ℕ). changesPcrs m (eventOf reset k)) (sym (p .refusal)) ∙ q)

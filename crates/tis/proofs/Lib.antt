@@ -3,6 +3,8 @@ pub mod Calls
 pub mod Decoding
 pub mod KeepsModel
 pub mod Demand3
+pub mod Unchanged
 pub mod Launches
+pub mod LaunchValue
 pub mod StaleAnswers
 pub mod Residue
