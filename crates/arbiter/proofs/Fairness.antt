@@ -10,7 +10,7 @@ use native.Mathlib.Decide.{decLt}
 use lib.ListN.{length, take}
 use lib.Dec.{eqb}
 use borrow.Author.Tests.{eqb-true, eqb-false, eq-eqb}
-use Rattle.arbiter.specs.Model.{Model, Holder, free, held, Event, put, highest, without, handover, wait, step}
+use Rattle.arbiter.specs.Model.{Model, Holder, free, held, Event, put, highest, without, step}
 use Rattle.arbiter.specs.Waits.{run, handsOver, one, handovers, isRequest, isRelease, isRestart, tally, begins, beginnings, while, during, bound}
 use Rattle.arbiter.specs.Claims.{Served}
 use Rattle.arbiter.proofs.ModelLaws.{clash, View, same, wiped, queued, dropped, took, passed, view, Highest, split, highest-held, highest-free}

@@ -20,9 +20,9 @@ use Rattle.command.specs.Size.{moreExpected}
 use Rattle.command.specs.Sts.{stsByte}
 use Rattle.command.specs.Fifos.{afterRead}
 use Rattle.bus.specs.declared.Effect.{Effect}
-use Rattle.bus.specs.Change.{effect, ignored, arbitratedControl, arbitrated, commandedEffect, withInterrupts}
+use Rattle.bus.specs.Change.{effect, ignored, interrupted, arbitratedControl, arbitrated, commandedEffect}
 use Rattle.bus.specs.Reading.{stsRead, fifoRead, registerByte, phaseAfter}
-use Rattle.bus.specs.Writing.{ifActive, startEffect, ordinary, closedPage, inPage, writeEffect}
+use Rattle.bus.specs.Writing.{ifActive, startEffect, ordinary, inPage, writeEffect}
 
 -- ---- putting a change in
 
@@ -75,9 +75,8 @@ module _ (g : Register) (x : Locality) (k : Control) (p : Phase) (b : Bool) (is 
 -- ---- writing
 
 module _ (k : Control) (p : Phase) (x : Locality) (r : Effect) (b : Bool) (is : b ≡ holds (k .arbiter .active) x) where
-  pub active-sets : (s t : Interrupts) (a : Control) → b ≡ true → s ≡ t → a ≡ withInterrupts k s → r ≡ ignored a p → r ≡ ifActive k p x (ignored (withInterrupts k t) p)
-  active-sets s t a w e i h =
-      h ∙ ap (λ (z : Control). ignored z p) i ∙ ap (λ (z : Interrupts). ignored (withInterrupts k z) p) e ∙ sym (simp (sym is ∙ w))
+  pub active-sets : (s t : Interrupts) → b ≡ true → s ≡ t → r ≡ interrupted k p s → r ≡ ifActive k p x (interrupted k p t)
+  active-sets s t w e h = h ∙ ap (interrupted k p) e ∙ sym (simp (sym is ∙ w))
 
   pub active-commands : (c d : Commanded) → b ≡ true → c ≡ d → r ≡ commandedEffect k c → r ≡ ifActive k p x (commandedEffect k d)
   active-commands c d w e h = h ∙ ap (commandedEffect k) e ∙ sym (simp (sym is ∙ w))

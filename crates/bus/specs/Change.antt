@@ -1,6 +1,5 @@
 -- How a rule's result goes into the record: an arbiter's change, and what a command bit or FIFO cycle leaves. Assumes nothing.
-use Prim.Native.Nat.{ℕ}
-use mathlib.Core.Bool.{Bool, true, false, cond, _||_}
+use mathlib.Core.Bool.{Bool, false, cond, _||_}
 use Rattle.arbiter.specs.declared.Change.{Change}
 use Rattle.record.specs.declared.Causes.{Causes}
 use Rattle.record.specs.declared.Interrupts.{Interrupts}
@@ -54,3 +53,7 @@ commandedEffect k c =
 
 abbrev pub withInterrupts : Control → Interrupts → Control
 withInterrupts k s = record { arbiter = k .arbiter; interrupts = s; established = k .established; run = k .run }
+
+-- a cycle that changes the interrupt registers alone
+abbrev pub interrupted : Control → Phase → Interrupts → Effect
+interrupted k p s = effect (withInterrupts k s) p Keep

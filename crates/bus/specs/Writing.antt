@@ -1,6 +1,6 @@
 -- What an accepted write does to control, phase and FIFOs (document 01, 'The pages' to 'The launch hash'). Assumes nothing.
 use Prim.Native.Nat.{ℕ}
-use mathlib.Core.Bool.{Bool, true, cond, _&&_, _||_}
+use mathlib.Core.Bool.{Bool, cond, _&&_, _||_}
 use lib.Dec.{eqb}
 use Rattle.arbiter.specs.Rules.{holds, accessWritten, hashStarted, hashEnded}
 use Rattle.arbiter.specs.declared.Locality.{Locality}
@@ -11,7 +11,7 @@ use Rattle.registers.specs.declared.Register.the-variants.{Access, IntEnable, I
 use Rattle.registers.specs.Interrupts.{enableWritten, statusWritten}
 use Rattle.command.specs.Sts.{stsWritten, stored}
 use Rattle.bus.specs.declared.Effect.{Effect}
-use Rattle.bus.specs.Change.{effect, ignored, arbitrated, commandedEffect, withInterrupts}
+use Rattle.bus.specs.Change.{ignored, interrupted, arbitrated, commandedEffect}
 
 -- a write of the active locality alone; any other is ignored
 abbrev pub ifActive : Control → Phase → Locality → Effect → Effect
@@ -28,9 +28,9 @@ endEffect k p running = arbitrated k p (k .established) (hashEnded running (k .a
 -- the registers of an ordinary page; "Any other offset .. ignores writes", and so do INT_VECTOR, capability and identity
 unfoldable pub ordinary : Register → Locality → Control → Phase → ℕ → ℕ → ℕ → Effect
 ordinary Access x k p size c v = arbitrated k p (k .established) (accessWritten (k .arbiter) x v)
-ordinary (IntEnable i) x k p size c v = ifActive k p x (ignored (withInterrupts k (enableWritten (k .interrupts) i v)) p)
+ordinary (IntEnable i) x k p size c v = ifActive k p x (interrupted k p (enableWritten (k .interrupts) i v))
 ordinary IntVector x k p size c v = ignored k p
-ordinary (IntStatus i) x k p size c v = ifActive k p x (ignored (withInterrupts k (statusWritten (k .interrupts) i v)) p)
+ordinary (IntStatus i) x k p size c v = ifActive k p x (interrupted k p (statusWritten (k .interrupts) i v))
 ordinary (Capability i) x k p size c v = ignored k p
 ordinary (Sts i) x k p size c v = ifActive k p x (commandedEffect k (stsWritten p (k .run) size c i v))
 ordinary Fifo x k p size c v = ifActive k p x (commandedEffect k (stored p (k .run) size c))

@@ -1,6 +1,6 @@
 // How a rule's result goes into the record.
 ghost use mathlib.Core.Path.{_≡_};
-ghost use Rattle.bus.specs.Change.{marked, ignored as ignoredSpec, arbitratedControl, arbitrated as arbitratedSpec, commandedEffect, withInterrupts};
+ghost use Rattle.bus.specs.Change.{marked, ignored as ignoredSpec, arbitratedControl, arbitrated as arbitratedSpec, commandedEffect, withInterrupts, interrupted as interruptedSpec};
 use crate::Effect;
 use arbiter::Change;
 use command::Commanded;
@@ -103,5 +103,16 @@ pub fn with_interrupts(k: Control, s: Interrupts) -> Control
         interrupts: s,
         established: k.established,
         run: k.run,
+    }
+}
+
+// The interrupt registers alone are changed.
+pub fn interrupted(k: Control, p: Phase, s: Interrupts) -> Effect
+    ensures { λ r. ⌜ r ≡ interruptedSpec k p s ⌝ }
+{
+    Effect {
+        control: with_interrupts(k, s),
+        phase: p,
+        fifos: FifoAction::Keep,
     }
 }

@@ -2,7 +2,7 @@
 ghost use mathlib.Core.Path.{_≡_};
 ghost use Prim.Native.Nat.{_<_};
 ghost use Rattle.arbiter.specs.Rules.{localities, accessWritten};
-ghost use Rattle.bus.specs.Change.{ignored as ignoredSpec, arbitrated as arbitratedSpec, withInterrupts, commandedEffect};
+ghost use Rattle.bus.specs.Change.{interrupted as interruptedSpec, arbitrated as arbitratedSpec, commandedEffect};
 ghost use Rattle.bus.specs.Writing.{ifActive, startEffect, endEffect, ordinary as ordinarySpec, inPage, writeEffect};
 ghost use Rattle.registers.specs.Interrupts.{enableWritten, statusWritten};
 ghost use Rattle.command.specs.Sts.{stsWritten, stored};
@@ -10,7 +10,7 @@ use crate::Effect;
 use crate::change::arbitrated;
 use crate::change::commanded;
 use crate::change::ignored;
-use crate::change::with_interrupts;
+use crate::change::interrupted;
 use arbiter::Locality;
 use arbiter::access::holds;
 use arbiter::transfer::hash_end;
@@ -47,25 +47,25 @@ fn access(x: Locality, k: Control, p: Phase, v: u8) -> Effect
 }
 
 fn enable(x: Locality, k: Control, p: Phase, i: u8, v: u8) -> Effect
-    ensures { λ r. ⌜ r ≡ ifActive k p x (ignoredSpec (withInterrupts k (enableWritten (k .interrupts) i v)) p) ⌝ }
+    ensures { λ r. ⌜ r ≡ ifActive k p x (interruptedSpec k p (enableWritten (k .interrupts) i v)) ⌝ }
 {
     let s = k.arbiter;
     let o = s.active;
     let t = k.interrupts;
     if holds(o, x) {
-        return ignored(with_interrupts(k, write_enable(t, i, v)), p);
+        return interrupted(k, p, write_enable(t, i, v));
     }
     ignored(k, p)
 }
 
 fn status(x: Locality, k: Control, p: Phase, i: u8, v: u8) -> Effect
-    ensures { λ r. ⌜ r ≡ ifActive k p x (ignoredSpec (withInterrupts k (statusWritten (k .interrupts) i v)) p) ⌝ }
+    ensures { λ r. ⌜ r ≡ ifActive k p x (interruptedSpec k p (statusWritten (k .interrupts) i v)) ⌝ }
 {
     let s = k.arbiter;
     let o = s.active;
     let t = k.interrupts;
     if holds(o, x) {
-        return ignored(with_interrupts(k, write_status(t, i, v)), p);
+        return interrupted(k, p, write_status(t, i, v));
     }
     ignored(k, p)
 }

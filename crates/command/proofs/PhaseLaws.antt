@@ -1,6 +1,6 @@
 -- The rules that go by the phase, case by case. Assumes nothing.
 use mathlib.Core.Path.{_≡_, refl, sym, ap, _∙_}
-use mathlib.Core.Bool.{Bool, true, false, cond, _&&_, _||_}
+use mathlib.Core.Bool.{Bool, true, false, _&&_, _||_}
 use mathlib.Core.List.{List}
 use Prim.Native.Nat.{ℕ, _+_, _/_, _%_, _<_, _≤_}
 use native.Mathlib.Omega.{arith}
@@ -9,11 +9,11 @@ use borrow.Author.Tests.{ltb-true, lt-ltb, le-ltb, eq-eqb, ne-eqb}
 use Rattle.record.specs.Limits.{header}
 use Rattle.record.specs.Record.{noCauses}
 use Rattle.record.specs.declared.Phase.{Phase}
-use Rattle.record.specs.declared.Phase.the-variants.{Idle, Ready, Reception, Execution, Completion}
+use Rattle.record.specs.declared.Phase.the-variants.{Reception, Execution, Completion}
 use Rattle.command.specs.declared.Commanded.{Commanded}
 use Rattle.command.specs.declared.StsCommand.{StsCommand}
 use Rattle.command.specs.Size.{moreAfter, moreExpected}
-use Rattle.command.specs.Sts.{availCause, phaseBits, stsLow, burstCap, burstCount, stsByte, commandOf, commanded, ignored, readied, nextRun, goneAfter, gone, retried, stsObeyed, stsWritten, storedAfter, stored}
+use Rattle.command.specs.Sts.{availCause, phaseBits, stsLow, burstCount, stsByte, commandOf, commanded, ignored, readied, nextRun, goneAfter, gone, retried, stsObeyed, stsWritten, storedAfter, stored}
 use Rattle.command.specs.Fifos.{fifoByte, afterRead}
 use Rattle.command.specs.declared.FifoAction.the-variants.{Keep, Store, Complain}
 

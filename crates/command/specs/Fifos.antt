@@ -1,6 +1,6 @@
 -- What the two lent FIFOs hold after a cycle, and what a FIFO read gives (document 01, 'Commands'). Assumes nothing.
 use Prim.Native.Nat.{ℕ, _+_, _-_}
-use mathlib.Core.Bool.{Bool, cond}
+use mathlib.Core.Bool.{cond}
 use mathlib.Core.List.{List, [], _∷_, _++_}
 use lib.ListN.{length, getD, set, replicate}
 use lib.Dec.{ltb}

@@ -1,7 +1,7 @@
 -- STS and the FIFO register (document 01, 'Commands'; TIS 11.3.11, 11.5): what STS reads, what its command bits do, and what a FIFO
 -- cycle does to the phase. Assumes nothing.
 use Prim.Native.Nat.{ℕ, _+_, _-_, _/_, _%_, _^_, min}
-use mathlib.Core.Bool.{Bool, true, false, cond, not, _&&_}
+use mathlib.Core.Bool.{Bool, true, false, cond, _&&_}
 use lib.Dec.{eqb, leb, ltb}
 use Rattle.arbiter.specs.Bits.{bit}
 use Rattle.record.specs.Limits.{header}
@@ -9,7 +9,7 @@ use Rattle.record.specs.Record.{noCauses}
 use Rattle.record.specs.declared.Causes.{Causes}
 use Rattle.record.specs.declared.Phase.{Phase}
 use Rattle.record.specs.declared.Phase.the-variants.{Idle, Ready, Reception, Execution, Completion}
-use Rattle.command.specs.Size.{moreAfter, moreExpected}
+use Rattle.command.specs.Size.{moreAfter}
 use Rattle.command.specs.declared.FifoAction.{FifoAction}
 use Rattle.command.specs.declared.FifoAction.the-variants.{Keep, Empty, Store, Complain}
 use Rattle.command.specs.declared.Commanded.{Commanded}
@@ -99,7 +99,7 @@ retried Idle run = ignored Idle run
 retried Ready run = ignored Ready run
 retried (Reception n) run = ignored (Reception n) run
 retried (Execution n) run = ignored (Execution n) run
-retried (Completion n k) run = ignored (Completion n 0) run
+retried (Completion n k) run = commanded (Completion n 0) run noCauses Keep
 
 abbrev pub stsObeyed : StsCommand → Phase → ℕ → ℕ → ℕ → Commanded
 stsObeyed Nothing p run size c = ignored p run

@@ -11,6 +11,7 @@ use crate::size::more_after;
 use record::Causes;
 use record::Phase;
 use record::limits::HEADER;
+use record::no_causes;
 
 const BURST_CAP: u16 = 64;
 
@@ -103,16 +104,6 @@ fn decode(v: u8) -> StsCommand
     StsCommand::ResponseRetry
 }
 
-fn quiet() -> Causes
-    ensures { λ r. ⌜ r ≡ noCauses ⌝ }
-{
-    Causes {
-        ready: false,
-        change: false,
-        avail: false,
-    }
-}
-
 // Without an interrupt cause.
 fn commanded(phase: Phase, run: u32, fifos: FifoAction) -> Commanded
     ensures { λ r. ⌜ r ≡ commandedSpec phase run noCauses fifos ⌝ }
@@ -120,7 +111,7 @@ fn commanded(phase: Phase, run: u32, fifos: FifoAction) -> Commanded
     Commanded {
         phase,
         run,
-        causes: quiet(),
+        causes: no_causes(),
         fifos,
     }
 }

@@ -1,14 +1,14 @@
 -- The tests of a call by cases, and what an accepted call may rely on. Assumes nothing.
 use mathlib.Core.Path.{_≡_, refl, sym, ap, _∙_}
 use mathlib.Core.Bool.{Bool, true, false, cond, not, _&&_, _||_, true≢false}
-use Prim.Native.Nat.{ℕ, _/_, _+_, _<_, _≤_, _^_}
+use Prim.Native.Nat.{ℕ, _/_, _<_, _≤_}
 use native.Mathlib.Omega.{arith}
 use lib.Dec.{eqb, leb, ltb}
-use borrow.Author.Tests.{eqb-true, eqb-false, eq-eqb, ne-eqb, leb-true, leb-false, ltb-true, ltb-false, lt-ltb, le-ltb, le-leb, lt-leb, not-true, not-false}
+use borrow.Author.Tests.{eqb-true, eqb-false, eq-eqb, ne-eqb, leb-true, leb-false, ltb-false, lt-ltb, le-ltb, le-leb, lt-leb, not-true, not-false}
 use Rattle.arbiter.specs.declared.Arbiter.{Arbiter}
 use Rattle.refusal.specs.Refusal.{accepted, offset, fifoLength, run, answerLength, question, shape}
 use Rattle.pcr.specs.Bank.{pcrs}
-use Rattle.record.specs.Limits.{fifoLeast, fifoGreatest, header, hashLimit}
+use Rattle.record.specs.Limits.{fifoLeast, fifoGreatest, header}
 use Rattle.record.specs.Shape.{lengthsAllowed, activeKnown, freeUnasked, activeUnasked, phasePlaced, countsFit, sequencePlaced, hashCounted, inShape}
 use Rattle.record.specs.declared.Phase.{Phase}
 use Rattle.judge.specs.Refusals.{lentRefusal, lastOffset, busRefusal, executes, answerRefusal, pcrRefusal}

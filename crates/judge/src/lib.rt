@@ -10,6 +10,9 @@ use record::limits::HEADER;
 use record::shape::in_shape;
 use record::shape::lengths_allowed;
 
+// The last byte of page 4.
+const LAST_OFFSET: u64 = 0x4fff;
+
 // 2, 6.
 pub fn lent_refusal(s: Arbiter, p: Phase, running: bool, count: u32, w: usize, r: usize) -> u8
     ensures { λ n. ⌜ n ≡ lentRefusal s p running count w r ⌝ }
@@ -39,7 +42,7 @@ pub fn bus_refusal(
     if n != refusal::ACCEPTED {
         return n;
     }
-    if 0x4fff < o {
+    if LAST_OFFSET < o {
         return refusal::OFFSET;
     }
     refusal::ACCEPTED

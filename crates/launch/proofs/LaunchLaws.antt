@@ -1,9 +1,8 @@
 -- The launch hash, step by step. Assumes nothing.
-use mathlib.Core.Path.{_≡_, refl, sym, ap, _∙_}
-use mathlib.Core.Bool.{Bool, true, false, cond, _&&_}
+use mathlib.Core.Path.{_≡_, sym, ap, _∙_}
+use mathlib.Core.Bool.{Bool, cond}
 use mathlib.Core.List.{List, _++_}
-use Prim.Native.Nat.{ℕ, _+_, _<_, _≤_, _^_}
-use lib.Dec.{leb}
+use Prim.Native.Nat.{ℕ, _+_, _<_, _^_}
 use Rattle.arbiter.specs.Rules.{hashStarted}
 use Rattle.arbiter.specs.declared.Locality.{Locality}
 use Rattle.arbiter.specs.declared.Arbiter.{Arbiter}
@@ -15,7 +14,7 @@ use Rattle.record.specs.declared.Launch.{Launch}
 use Rattle.registers.specs.declared.Register.{Register}
 use Rattle.registers.specs.declared.Register.the-variants.{HashStart}
 use Rattle.launch.specs.declared.HashStep.{HashStep}
-use Rattle.launch.specs.declared.HashStep.the-variants.{NoStep, Start, Data, End}
+use Rattle.launch.specs.declared.HashStep.the-variants.{NoStep, Start, Data}
 use Rattle.launch.specs.Launch.{hashStep, hashFull, launchAfter, measured, pcrsAfter}
 
 module _ (g h : Register) (x : Locality) (running : Bool) (s : Arbiter) (r : HashStep) where

@@ -3,7 +3,6 @@ ghost use mathlib.Core.Path.{_≡_};
 ghost use Prim.Native.Nat.{_+_, _<_, _^_};
 ghost use mathlib.Core.Bool.{true, cond};
 ghost use Rattle.arbiter.specs.Rules.{hashStarted};
-ghost use Rattle.record.specs.Record.{closedLaunch};
 ghost use Rattle.sha1.specs.Stream.{begun as begunStream, joinOf};
 ghost use Rattle.launch.specs.declared.HashStep.the-variants.{NoStep, Data};
 ghost use Rattle.launch.specs.Launch.{hashStep, hashFull, launchAfter, measured, pcrsAfter};
@@ -13,6 +12,7 @@ use arbiter::transfer::hash_start;
 use pcr::Pcr;
 use pcr::PcrIndex;
 use record::Launch;
+use record::closed_launch;
 use record::limits::HASH_LIMIT;
 use registers::Register;
 
@@ -69,15 +69,6 @@ pub fn hash_full(h: HashStep, count: u32) -> bool
     }
 }
 
-fn closed() -> Launch
-    ensures { λ r. ⌜ r ≡ closedLaunch ⌝ }
-{
-    Launch {
-        running: false,
-        stream: sha1::nothing(),
-    }
-}
-
 fn begun() -> Launch
     ensures { λ r. ⌜ r ≡ record { running = true; stream = begunStream } ⌝ }
 {
@@ -106,7 +97,7 @@ pub fn launch_after(h: HashStep, l: Launch, v: u8) -> Launch
         HashStep::NoStep => l,
         HashStep::Start => begun(),
         HashStep::Data => joined(l, v),
-        HashStep::End => closed(),
+        HashStep::End => closed_launch(),
     }
 }
 

@@ -1,16 +1,12 @@
--- The device record (document 01, 'What the device record carries'): its fresh value, and one part of it replaced. Assumes nothing.
+-- The device record (document 01, 'What the device record carries'): its fresh value and the values of its parts at power-on. Assumes nothing.
 use Prim.Native.Nat.{ℕ}
-use mathlib.Core.Bool.{Bool, true, false}
+use mathlib.Core.Bool.{Bool, false}
 use mathlib.Core.List.{List}
 use Rattle.arbiter.specs.Rules.{freshArbiter}
-use Rattle.arbiter.specs.declared.Arbiter.{Arbiter}
 use Rattle.pcr.specs.Bank as bank
-use Rattle.pcr.specs.declared.Pcr.{Pcr}
 use Rattle.sha1.specs.Stream.{nothing}
-use Rattle.record.specs.declared.Phase.{Phase}
 use Rattle.record.specs.declared.Phase.the-variants.{Idle}
 use Rattle.record.specs.declared.Causes.{Causes}
-use Rattle.record.specs.declared.Interrupts.{Interrupts}
 use Rattle.record.specs.declared.Control.{Control}
 use Rattle.record.specs.declared.Launch.{Launch}
 use Rattle.record.specs.declared.Device.{Device}

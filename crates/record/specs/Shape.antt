@@ -3,7 +3,7 @@
 use Prim.Native.Nat.{ℕ}
 use mathlib.Core.Bool.{Bool, true, false, not, _&&_, _||_}
 use mathlib.Core.List.{List}
-use lib.ListN.{length, getD}
+use lib.ListN.{getD}
 use lib.Dec.{leb, ltb, eqb}
 use Rattle.arbiter.specs.Rules.{localities, anyWaits}
 use Rattle.arbiter.specs.declared.Owner.{Owner}
@@ -12,7 +12,6 @@ use Rattle.arbiter.specs.declared.Arbiter.{Arbiter}
 use Rattle.record.specs.Limits.{fifoLeast, fifoGreatest, header, hashLimit}
 use Rattle.record.specs.declared.Phase.{Phase}
 use Rattle.record.specs.declared.Phase.the-variants.{Idle, Ready, Reception, Execution, Completion}
-use Rattle.record.specs.declared.Device.{Device}
 
 -- 2 is given exactly when not: "a FIFO length outside 1,024..4,096, or the two differ"
 unfoldable pub lengthsAllowed : ℕ → ℕ → Bool
@@ -74,6 +73,3 @@ inShape s p running count c =
     && countsFit p c
     && sequencePlaced running (s .active)
     && hashCounted running count
-
-abbrev pub shaped : Device → ℕ → Bool
-shaped d c = inShape (d .control .arbiter) (d .phase) (d .launch .running) (d .launch .stream .count) c

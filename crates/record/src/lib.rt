@@ -1,6 +1,6 @@
 // The device record (document 01, 'What the device record carries'), its limits, its fresh value and the shape rule.
 ghost use mathlib.Core.Path.{_≡_};
-ghost use Rattle.record.specs.Record.{noCauses, freshControl, freshDevice};
+ghost use Rattle.record.specs.Record.{noCauses, freshControl, closedLaunch, freshDevice};
 use arbiter::Arbiter;
 use pcr::Pcr;
 use sha1::Stream;
@@ -53,7 +53,7 @@ pub struct Device {
     pub pcrs: [Pcr; 24],
 }
 
-fn no_causes() -> Causes
+pub fn no_causes() -> Causes
     ensures { λ r. ⌜ r ≡ noCauses ⌝ }
 {
     Causes {
@@ -78,6 +78,15 @@ fn fresh_control(established: bool, run: u32) -> Control
     }
 }
 
+pub fn closed_launch() -> Launch
+    ensures { λ r. ⌜ r ≡ closedLaunch ⌝ }
+{
+    Launch {
+        running: false,
+        stream: sha1::nothing(),
+    }
+}
+
 // At power-on.
 pub fn fresh(established: bool, identity: [u8; 5]) -> Device
     ensures { λ r. ⌜ r ≡ freshDevice established identity 0 ⌝ }
@@ -93,10 +102,7 @@ pub fn anew(established: bool, identity: [u8; 5], run: u32) -> Device
         control: fresh_control(established, run),
         phase: Phase::Idle,
         identity,
-        launch: Launch {
-            running: false,
-            stream: sha1::nothing(),
-        },
+        launch: closed_launch(),
         pcrs: pcr::bank::fresh(),
     }
 }

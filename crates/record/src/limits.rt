@@ -1,4 +1,4 @@
-// The numbers that document 01 bounds things by, each named once; crate specs has the same names.
+// The numbers that document 01 bounds things by, each named once; `specs/Limits.antt` has the same names.
 
 // C, the length of each lent FIFO.
 pub const FIFO_LEAST: usize = 1024;

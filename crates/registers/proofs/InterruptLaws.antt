@@ -3,7 +3,6 @@ use mathlib.Core.Path.{_≡_, refl, sym, ap, _∙_}
 use mathlib.Core.Bool.{Bool, not, _&&_}
 use Prim.Native.Nat.{ℕ, _+_}
 use borrow.Author.Tests.{eq-eqb, ne-eqb}
-use Rattle.record.specs.declared.Causes.{Causes}
 use Rattle.record.specs.declared.Interrupts.{Interrupts}
 use Rattle.registers.specs.Interrupts.{causeBits, enableByte, isSet, enableWritten, statusWritten}
 

@@ -1,6 +1,6 @@
 -- The interrupt registers and the line (document 01, 'Interrupts'; TIS 12), and the capability byte. Assumes nothing.
 use Prim.Native.Nat.{ℕ, _+_}
-use mathlib.Core.Bool.{Bool, false, cond, not, _&&_, _||_}
+use mathlib.Core.Bool.{Bool, cond, not, _&&_, _||_}
 use lib.Dec.{eqb}
 use Rattle.arbiter.specs.Bits.{bit}
 use Rattle.record.specs.declared.Causes.{Causes}

@@ -1,5 +1,4 @@
 -- Lists of calls, each as its function's own contract has it, each handed what the last one left. Assumes nothing.
-use mathlib.Core.Path.{_≡_}
 use mathlib.Core.Bool.{Bool}
 use mathlib.Core.List.{List, [], _∷_}
 use Prim.Native.Nat.{ℕ}

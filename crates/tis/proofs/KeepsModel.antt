@@ -1,5 +1,5 @@
 -- Each call keeps the waiting model: what it leaves of the arbiter state and the sequence agrees with the model's step. Assumes nothing.
-use mathlib.Core.Path.{_≡_, refl, sym, ap, _∙_, subst}
+use mathlib.Core.Path.{_≡_, refl, sym, ap, _∙_}
 use mathlib.Core.Bool.{Bool, true, false, cond, _&&_, _||_, true≢false}
 use mathlib.Core.List.{List}
 use Prim.Native.Nat.{ℕ, zero, suc, _+_, _<_, _≤_}
@@ -7,10 +7,9 @@ use native.Mathlib.Omega.{arith}
 use lib.ListN.{length}
 use lib.Dec.{eqb}
 use borrow.Author.Tests.{eqb-true, eqb-false}
-use denote.Ref.{now}
 use Rattle.arbiter.specs.Bits.{bit}
 use Rattle.arbiter.specs.Rules.{holds, hashStarted, hashEnded, accessWritten}
-use Rattle.arbiter.specs.Model.{Call, powerOn, reset, read, write, Model, Event, restart, hashStart, hashEnd, access, nothing, requestUse, release, seize, clearSeized, accessEvent, eventOf, writeEvent, shut, step, fresh}
+use Rattle.arbiter.specs.Model.{Call, reset, write, Model, hashStart, hashEnd, access, nothing, requestUse, release, seize, clearSeized, accessEvent, eventOf, shut, step, fresh}
 use Rattle.arbiter.specs.Claims.{Agrees}
 use Rattle.arbiter.specs.declared.Locality.{Locality}
 use Rattle.arbiter.specs.declared.Arbiter.{Arbiter}
@@ -26,14 +25,12 @@ use Rattle.record.specs.declared.Phase.{Phase}
 use Rattle.record.specs.declared.Phase.the-variants.{Idle}
 use Rattle.command.specs.declared.FifoAction.the-variants.{Keep, Empty}
 use Rattle.record.specs.declared.Launch.{Launch}
-use Rattle.registers.specs.Map.{pageOf}
 use Rattle.registers.specs.declared.Register.{Register}
 use Rattle.registers.specs.declared.Register.the-variants.{Access, IntEnable, IntVector, IntStatus, Capability, Sts, Fifo, Identity, HashEnd, HashStart, Hole}
 use Rattle.command.specs.Fifos.{emptied, answered}
 use Rattle.bus.specs.declared.Effect.{Effect}
 use Rattle.bus.specs.Change.{effect, ignored, arbitratedControl, arbitrated, commandedEffect}
 use Rattle.bus.specs.Writing.{ifActive, closedPage, inPage, ordinary, writeEffect}
-use Rattle.launch.specs.declared.HashStep.{HashStep}
 use Rattle.launch.specs.declared.HashStep.the-variants.{NoStep, Start, Data, End}
 use Rattle.launch.specs.Launch.{hashStep, hashFull, launchAfter}
 use Rattle.tis.specs.Result.{Result, result}
@@ -41,7 +38,6 @@ use Rattle.judge.specs.Refusals.{lastOffset}
 use Rattle.tis.specs.Power.{poweredOn, refusalOf, afterReset}
 use Rattle.tis.specs.Cycles.{cycleRefusal, pageAt, registerFor, readOutcome, readAt, busRead, effectAt, stepAt, writtenAt, acceptedWrite, busWrite}
 use Rattle.tis.specs.Answer.{respondRefusal, completed, responded}
-use Rattle.tis.specs.declared.ReadOutcome.{ReadOutcome}
 use Rattle.judge.proofs.RefusalLaws.{bus-then}
 use Rattle.tis.proofs.Decoding.{eventFor, decoded}
 

@@ -3,7 +3,7 @@
 use mathlib.Core.Path.{_≡_, refl, sym, ap, _∙_}
 use mathlib.Core.Bool.{Bool, true, false, cond, true≢false}
 use mathlib.Core.List.{List, [], _∷_, _++_}
-use mathlib.Core.Logic.{_⊎_, inl, inr}
+use mathlib.Core.Logic.{inl, inr}
 use Prim.Native.Nat.{ℕ, zero, suc, _+_, _≤_}
 use native.Mathlib.Omega.{arith}
 use lib.ListN.{length, length-set, length-drop, length-append, replicate, take, drop}
@@ -11,13 +11,13 @@ use lib.Seq.{length-take-le}
 use lib.Dec.{eqb, ltb}
 use denote.Ref.{now}
 use Rattle.arbiter.specs.Bits.{bit}
-use Rattle.arbiter.specs.Model.{Call, powerOn, reset, write, Model, Holder, free, held, AccessBit, requestUse, release, seize, clearSeized, Event, restart, hashStart, hashEnd, access, nothing, eventOf, accessEvent, handover, wait, withdraw, acquire, started, start, closed, obey, shut, step, fresh}
+use Rattle.arbiter.specs.Model.{Call, powerOn, reset, write, Model, Holder, free, held, AccessBit, requestUse, release, seize, clearSeized, Event, restart, hashStart, hashEnd, access, nothing, eventOf, accessEvent, handover, wait, withdraw, acquire, start, obey, shut, step, fresh}
 use Rattle.arbiter.specs.Waits.{events, run, modelAfter}
 use Rattle.arbiter.specs.declared.Locality.{Locality}
 use Rattle.arbiter.proofs.Invariant.{Sound, sound-fresh, sound-step, paged}
 use Rattle.sha1.specs.Sha1.{sha1}
 use Rattle.pcr.specs.Bank as bank
-use Rattle.pcr.specs.Bank.{pcrs, pcr, allBytes, valueAt, replaced, dynamic, withDynamic, launched}
+use Rattle.pcr.specs.Bank.{pcrs, pcr, allBytes, valueAt, dynamic, withDynamic, launched}
 use Rattle.pcr.specs.declared.Pcr.{Pcr}
 use Rattle.pcr.proofs.BankAt.{launched-at, replaced-at}
 use Rattle.refusal.specs.Refusal.{accepted, fifoLength}
@@ -27,17 +27,16 @@ use Rattle.record.specs.declared.Device.{Device}
 use Rattle.registers.specs.declared.Register.{Register}
 use Rattle.registers.specs.declared.Register.the-variants.{Access, IntEnable, IntVector, IntStatus, Capability, Sts, Fifo, Identity, HashEnd, HashStart, Hole}
 use Rattle.command.specs.Fifos.{emptied}
-use Rattle.launch.specs.declared.HashStep.the-variants.{NoStep, Start, End}
 use Rattle.launch.specs.Launch.{hashStep, pcrsAfter}
 use Rattle.tis.specs.Result.{Result, result}
 use Rattle.tis.specs.Power.{poweredOn, refusalOf, afterReset}
 use Rattle.tis.specs.Cycles.{pageAt, registerFor, stepAt, busWrite}
-use Rattle.tis.specs.Streams.{startCounts, streamAfter}
+use Rattle.tis.specs.Streams.{startCounts, streamAfter, changesPcrs}
 use Rattle.tis.proofs.Calls.{State, Step, powersOn, resets, reads, writes, responds, asksPcr, asksLine, asksReset, asksExtend, looks, Runs, none, more}
 use Rattle.tis.proofs.Decoding.{eventFor, decoded}
 use Rattle.tis.proofs.KeepsModel.{Keeps}
 use Rattle.tis.proofs.Demand3.{one-call, all-calls, first-call}
-use Rattle.tis.proofs.Launches.{Launched, launched-claim, changesPcrs, counts-same, Wrote, wrote, step-keeps}
+use Rattle.tis.proofs.Launches.{Launched, launched-claim, counts-same, Wrote, wrote, step-keeps}
 
 -- ---- the invariant
 

@@ -1,7 +1,7 @@
 -- The launch claim over lists of calls: the open sequence stands for exactly the bytes accepted since the last start that counted, its end
 -- measures them into PCR 17, and nothing else changes a PCR but power-on, reset and hash start. Assumes nothing.
 use mathlib.Core.Path.{_≡_, refl, sym, ap, _∙_}
-use mathlib.Core.Bool.{Bool, true, false, cond, _&&_, _||_, true≢false}
+use mathlib.Core.Bool.{Bool, true, false, cond, _&&_, true≢false}
 use mathlib.Core.List.{List, [], _∷_, _++_}
 use mathlib.Core.Logic.{_⊎_, inl, inr}
 use Prim.Native.Nat.{ℕ, zero, suc, _<_, _≤_}
@@ -11,7 +11,7 @@ use lib.Dec.{eqb}
 use borrow.Author.Tests.{eqb-true, eqb-false}
 use denote.Ref.{now}
 use Rattle.arbiter.specs.Rules.{emptying, quietly, hashStarted, startWith}
-use Rattle.arbiter.specs.Model.{Call, powerOn, reset, read, write, Model, Holder, free, held, Event, restart, hashStart, hashEnd, access, nothing, eventOf, isHashStart, isHashEnd, step, fresh}
+use Rattle.arbiter.specs.Model.{Call, powerOn, reset, write, Model, nothing, eventOf, step, fresh}
 use Rattle.arbiter.specs.Waits.{events, run, modelAfter}
 use Rattle.arbiter.specs.Claims.{Agrees, holder}
 use Rattle.arbiter.specs.declared.Locality.{Locality}
@@ -42,7 +42,7 @@ use Rattle.judge.specs.Refusals.{lastOffset}
 use Rattle.tis.specs.Power.{poweredOn, refusalOf, afterReset}
 use Rattle.tis.specs.Cycles.{cycleRefusal, pageAt, registerFor, readOutcome, readAt, busRead, stepAt, writtenAt, acceptedWrite, busWrite}
 use Rattle.tis.specs.Answer.{respondRefusal, completed, responded}
-use Rattle.tis.specs.Streams.{isData, startCounts, streamWritten, streamStep, streamAfter}
+use Rattle.tis.specs.Streams.{startCounts, streamWritten, streamStep, streamAfter, changesPcrs}
 use Rattle.judge.proofs.RefusalLaws.{bus-then}
 use Rattle.tis.proofs.Calls.{State, Step, powersOn, resets, reads, writes, responds, asksPcr, asksLine, asksReset, asksExtend, looks, Runs, none, more}
 use Rattle.tis.proofs.Decoding.{not-within, in-within, on-less, on-equal, eventFor, decoded, at-end, at-start}
@@ -267,14 +267,6 @@ one-streams m bs (asksExtend κs s i x o p) a t = t
 one-streams m bs (looks κs d w r u n n′ p) a t = t
 
 -- ---- the PCRs
-
--- may the event change a PCR: power-on and reset, a start that counts, the end of an open sequence
-abbrev pub changesPcrs : Model → Event → Bool
-changesPcrs m restart = true
-changesPcrs m hashStart = startCounts (m .active)
-changesPcrs m hashEnd = m .sequence
-changesPcrs m (access x a) = false
-changesPcrs m nothing = false
 
 module _ (m : Model) (d : Device) (a : Keeps m d) (v : ℕ) where
   pcrs-kept : (g : Register) (x : Locality) → changesPcrs m (eventFor g (x .0) v) ≡ false → pcrsAfter (stepAt g x d) (d .launch) (d .pcrs) ≡ d .pcrs

@@ -3,7 +3,7 @@ use mathlib.Core.Path.{_≡_, refl, sym, ap, _∙_}
 use mathlib.Core.Bool.{Bool, true, false, cond, not, _&&_, _||_, true≢false}
 use mathlib.Core.List.{List, [], _∷_}
 use mathlib.Core.Logic.{_⊎_, inl, inr}
-use Prim.Native.Nat.{ℕ, zero, suc, _+_, _%_, _^_, _<_, _≤_, zero-le}
+use Prim.Native.Nat.{ℕ, _+_, _%_, _^_, _<_}
 use native.Mathlib.Omega.{arith}
 use lib.ListN.{length}
 use lib.Dec.{eqb, leb, ltb}
@@ -30,7 +30,7 @@ use Rattle.command.specs.declared.FifoAction.the-variants.{Keep, Empty, Store, 
 use Rattle.command.specs.declared.StsCommand.{StsCommand}
 use Rattle.command.specs.declared.StsCommand.the-variants.{Nothing, CommandReady, Go, ResponseRetry}
 use Rattle.command.specs.Size.{moreAfter}
-use Rattle.command.specs.Sts.{commandOf, commanded, ignored, readied, nextRun, goneAfter, gone, retried, stsObeyed, stsWritten, storedAfter, stored, availCause}
+use Rattle.command.specs.Sts.{commandOf, commanded, ignored, readied, nextRun, gone, retried, stsObeyed, stsWritten, stored, availCause}
 use Rattle.command.specs.Fifos.{emptied, answered, afterRead}
 use Rattle.bus.specs.Change as put
 use Rattle.bus.specs.Change.{effect, arbitrated, arbitratedControl, commandedEffect}
@@ -38,11 +38,10 @@ use Rattle.bus.specs.Reading.{phaseAfter}
 use Rattle.bus.specs.Writing.{ifActive, closedPage, inPage, ordinary, writeEffect}
 use Rattle.bus.specs.declared.Effect.{Effect}
 use Rattle.launch.specs.Launch.{hashFull}
-use Rattle.tis.specs.declared.ReadOutcome.{ReadOutcome}
-use Rattle.judge.specs.Refusals.{executes, lentRefusal, answerRefusal}
-use Rattle.tis.specs.Result.{Result, result}
+use Rattle.judge.specs.Refusals.{executes, answerRefusal}
+use Rattle.tis.specs.Result.{result}
 use Rattle.tis.specs.Power.{poweredOn, refusalOf, afterReset}
-use Rattle.tis.specs.Cycles.{cycleRefusal, pageAt, registerFor, readOutcome, readAt, busRead, effectAt, stepAt, writtenAt, acceptedWrite, busWrite}
+use Rattle.tis.specs.Cycles.{cycleRefusal, pageAt, registerFor, readOutcome, readAt, busRead, stepAt, writtenAt, acceptedWrite, busWrite}
 use Rattle.tis.specs.Answer.{respondRefusal, completed, responded}
 use Rattle.tis.proofs.Calls.{State, Step, powersOn, resets, reads, writes, responds, asksPcr, asksLine, asksReset, asksExtend, looks, Runs, none, more}
 

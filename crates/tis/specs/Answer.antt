@@ -1,12 +1,11 @@
 -- The engine's answer (document 01, 'Commands'). Assumes nothing.
 use Prim.Native.Nat.{ℕ}
-use mathlib.Core.Bool.{Bool, cond}
+use mathlib.Core.Bool.{cond}
 use mathlib.Core.List.{List}
 use lib.ListN.{length}
 use lib.Dec.{eqb}
 use Rattle.refusal.specs.Refusal.{accepted}
 use Rattle.record.specs.declared.Device.{Device}
-use Rattle.record.specs.declared.Control.{Control}
 use Rattle.record.specs.declared.Phase.the-variants.{Completion}
 use Rattle.command.specs.Sts.{availCause}
 use Rattle.command.specs.Fifos.{emptied, answered}

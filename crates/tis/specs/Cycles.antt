@@ -1,6 +1,6 @@
 -- Bus cycles (document 01, 'The pages'): one read and one write, for any record, FIFOs, offset and byte. Assumes nothing.
 use Prim.Native.Nat.{ℕ}
-use mathlib.Core.Bool.{Bool, cond}
+use mathlib.Core.Bool.{cond}
 use mathlib.Core.List.{List}
 use lib.ListN.{length}
 use lib.Dec.{eqb}

@@ -1,10 +1,10 @@
 -- The bytes of the open hash sequence, kept from the calls, their refusal numbers and the waiting model alone: those accepted since the last
--- start that counted (document 01, 'The launch hash'). Assumes nothing.
+-- start that counted (document 01, 'The launch hash'); and which events change a PCR. Assumes nothing.
 use Prim.Native.Nat.{ℕ, zero, suc}
-use mathlib.Core.Bool.{Bool, true, cond, _&&_}
+use mathlib.Core.Bool.{Bool, true, false, cond}
 use mathlib.Core.List.{List, [], _∷_, _++_}
 use lib.Dec.{eqb}
-use Rattle.arbiter.specs.Model.{Call, powerOn, reset, read, write, respond, pcrValue, interruptLine, mayReset, mayExtend, window, Model, Holder, free, held, within, isHashStart, isHashEnd, eventOf, step}
+use Rattle.arbiter.specs.Model.{Call, powerOn, reset, read, write, respond, pcrValue, interruptLine, mayReset, mayExtend, window, Model, Holder, free, held, within, isHashStart, isHashEnd, Event, restart, hashStart, hashEnd, access, nothing, eventOf, step}
 
 -- "4024..4027 takes hash data while a sequence is open"
 abbrev pub isData : ℕ → Bool
@@ -41,3 +41,11 @@ streamStep m bs window n = bs
 unfoldable pub streamAfter : Model → List ℕ → List (Call × ℕ) → List ℕ
 streamAfter m bs [] = bs
 streamAfter m bs (c ∷ cs) = streamAfter (step m (eventOf (c .0) (c .1))) (streamStep m bs (c .0) (c .1)) cs
+
+-- the events that change a PCR: power-on and reset, a start that counts, the end of an open sequence
+abbrev pub changesPcrs : Model → Event → Bool
+changesPcrs m restart = true
+changesPcrs m hashStart = startCounts (m .active)
+changesPcrs m hashEnd = m .sequence
+changesPcrs m (access x a) = false
+changesPcrs m nothing = false

@@ -11,7 +11,6 @@ status-spec =
     (λ c κs. search needs)
     (λ c κs. search needs)
     (λ c κs. search needs)
-    (λ c κs. search needs)
     (λ c. search (needs, active-sets))
     (λ c κs. search needs)
     (λ c. search (needs, other-ignored)))
