@@ -123,73 +123,38 @@ fn phases_need_a_holder_and_no_open_sequence() {
     }
 }
 
+/// A count reaches from `least` to C and no further; where no FIFO is lent C is 4,096.
+#[track_caller]
+fn reaches_from_to_c(least: u16, phase: fn(u16) -> Phase) {
+    let at = |count: u16, c: usize| verdicts(&in_phase(phase(count)), c);
+    assert_eq!(at(0, 1024), (false, false));
+    assert_eq!(at(least - 1, 1024), (false, false));
+    assert_eq!(at(least, 1024), (true, true));
+    assert_eq!(at(1024, 1024), (true, true));
+    assert_eq!(at(1025, 1024), (false, true));
+    assert_eq!(at(1025, 1025), (true, true));
+    assert_eq!(at(4096, 4096), (true, true));
+    assert_eq!(at(4097, 4096), (false, false));
+    assert_eq!(at(u16::MAX, 1024), (false, false));
+}
+
 #[test]
 fn reception_count() {
-    outside(&in_phase(Phase::Reception(0)));
-    inside(&in_phase(Phase::Reception(1)));
-    inside(&in_phase(Phase::Reception(1024)));
-    assert_eq!(
-        verdicts(&in_phase(Phase::Reception(1025)), 1024),
-        (false, true)
-    );
-    assert_eq!(
-        verdicts(&in_phase(Phase::Reception(1025)), 1025),
-        (true, true)
-    );
-    assert_eq!(
-        verdicts(&in_phase(Phase::Reception(4096)), 4096),
-        (true, true)
-    );
-    assert_eq!(
-        verdicts(&in_phase(Phase::Reception(4097)), 4096),
-        (false, false)
-    );
-    outside(&in_phase(Phase::Reception(u16::MAX)));
+    reaches_from_to_c(1, Phase::Reception);
 }
 
 #[test]
 fn execution_count() {
-    outside(&in_phase(Phase::Execution(0)));
-    outside(&in_phase(Phase::Execution(9)));
-    inside(&in_phase(Phase::Execution(10)));
-    inside(&in_phase(Phase::Execution(1024)));
-    assert_eq!(
-        verdicts(&in_phase(Phase::Execution(1025)), 1024),
-        (false, true)
-    );
-    assert_eq!(
-        verdicts(&in_phase(Phase::Execution(4096)), 4096),
-        (true, true)
-    );
-    assert_eq!(
-        verdicts(&in_phase(Phase::Execution(4097)), 4096),
-        (false, false)
-    );
-    outside(&in_phase(Phase::Execution(u16::MAX)));
+    reaches_from_to_c(10, Phase::Execution);
 }
 
 #[test]
 fn completion_counts() {
-    outside(&in_phase(Phase::Completion(0, 0)));
-    outside(&in_phase(Phase::Completion(9, 0)));
-    inside(&in_phase(Phase::Completion(10, 0)));
+    reaches_from_to_c(10, |length| Phase::Completion(length, 0));
+    reaches_from_to_c(10, |length| Phase::Completion(length, length));
     inside(&in_phase(Phase::Completion(10, 10)));
     outside(&in_phase(Phase::Completion(10, 11)));
-    inside(&in_phase(Phase::Completion(1024, 1024)));
     outside(&in_phase(Phase::Completion(1024, 1025)));
-    assert_eq!(
-        verdicts(&in_phase(Phase::Completion(1025, 0)), 1024),
-        (false, true)
-    );
-    assert_eq!(
-        verdicts(&in_phase(Phase::Completion(4096, 4096)), 4096),
-        (true, true)
-    );
-    assert_eq!(
-        verdicts(&in_phase(Phase::Completion(4097, 0)), 4096),
-        (false, false)
-    );
-    outside(&in_phase(Phase::Completion(u16::MAX, u16::MAX)));
 }
 
 #[test]
