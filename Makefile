@@ -14,10 +14,10 @@ test:
 
 # Plays the bench sheet and the SHA-1 vectors, each line with what is expected and what came.
 run:
-	@echo 'proving and building bench_sheet and sha1_vectors (about six minutes the first time)'
+	@echo 'proving and building bench_sheet and sha1_vectors (about five minutes the first time)'
 	@mkdir -p target
 	@{ rt check bench_sheet && rt check sha1_vectors; } >target/run.log 2>&1 || { cat target/run.log; exit 1; }
-	@target/bin/bench_sheet
+	@target/bin/bench_sheet <crates/bench_sheet/stdin
 	@target/bin/sha1_vectors
 
 # The proved SHA-1 beside an ordinary one, both built for release.

@@ -12,13 +12,13 @@ use Rattle.arbiter.specs.declared.Owner.{Owner}
 use Rattle.arbiter.specs.declared.Owner.the-variants.{Nobody, Held}
 use Rattle.arbiter.specs.declared.Arbiter.{Arbiter}
 use Rattle.arbiter.specs.declared.AccessCommand.the-variants.{Nothing, RequestUse, Release, Seize, ClearSeized}
-use Rattle.arbiter.specs.Bits.{bit}
+use Rattle.waiting.specs.Bits.{bit}
 use Rattle.arbiter.specs.Rules as rule
 use Rattle.arbiter.specs.Rules.{locality, freshArbiter, withActive, withWaiting, withSeized, quietly, emptying, waits, holds, handTo, handedOver, commandOf, requestWith, requested, released, seizeWith, seizedBy, seizedCleared, obeyed, accessWritten, startWith, hashStarted, hashEnded}
-use Rattle.arbiter.specs.Model.{Model, Holder, free, held, hashStart, hashEnd, access, nothing, requestUse, release, seize, clearSeized, accessEvent, put, highestBelow, highest, handover, acquire, wait, withdraw, started, start, obey, shut, step, fresh}
-use Rattle.arbiter.specs.Claims.{holder, Agrees}
-use Rattle.arbiter.proofs.ModelLaws.{highest-held}
-use Rattle.arbiter.proofs.Invariant.{Sound}
+use Rattle.waiting.specs.Model.{Model, Holder, free, held, hashStart, hashEnd, access, nothing, requestUse, release, seize, clearSeized, accessEvent, put, highestBelow, highest, handover, acquire, wait, withdraw, started, start, obey, shut, step, fresh}
+use Rattle.arbiter.specs.Agreement.{holder, Agrees}
+use Rattle.waiting.proofs.ModelLaws.{highest-held}
+use Rattle.waiting.proofs.Invariant.{Sound}
 
 -- ---- flags
 

@@ -1,5 +1,2 @@
-pub mod Bits
 pub mod Rules
-pub mod Model
-pub mod Waits
-pub mod Claims
+pub mod Agreement

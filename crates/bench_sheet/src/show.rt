@@ -28,15 +28,7 @@ pub fn hex(b: u8) {
     digit(n % 16);
 }
 
-// The last four decimal digits.
-pub fn decimal(n: u64) {
-    digit(n / 1000 % 10);
-    digit(n / 100 % 10);
-    digit(n / 10 % 10);
-    digit(n % 10);
-}
-
-pub fn verdict(same: bool) {
+fn verdict(same: bool) {
     if same {
         say(b"  ok\n");
     } else {
@@ -44,11 +36,25 @@ pub fn verdict(same: bool) {
     }
 }
 
-// The end of a line: what is expected, what came, and whether they are the same.
-pub fn compare(expected: u8, got: u8, accepted: bool) {
+// What is expected and what came, and whether they are the same.
+pub fn pair(expected: u8, got: u8) -> bool {
     say(b"  expected ");
     hex(expected);
     say(b"  got ");
     hex(got);
-    verdict(accepted & (expected == got));
+    expected == got
+}
+
+// The end of a line.
+pub fn compare(expected: u8, got: u8, also: bool) {
+    let same = pair(expected, got);
+    verdict(also & same);
+}
+
+pub fn compare_texts(expected: [u8; 40], got: [u8; 40], also: bool) {
+    say(b"  expected ");
+    say(&expected);
+    say(b"  got ");
+    say(&got);
+    verdict(also & check::same(&got, &expected));
 }

@@ -7,20 +7,20 @@ use pcr::PcrIndex;
 use record::Phase;
 use record::limits::FIFO_GREATEST;
 use record::limits::HEADER;
-use record::shape::in_shape;
-use record::shape::lengths_allowed;
+use shape::in_shape;
+use shape::lengths_allowed;
 
 // The last byte of page 4.
 const LAST_OFFSET: u64 = 0x4fff;
 
 // 2, 6.
-pub fn lent_refusal(s: Arbiter, p: Phase, running: bool, count: u32, w: usize, r: usize) -> u8
-    ensures { λ n. ⌜ n ≡ lentRefusal s p running count w r ⌝ }
+pub fn lent_refusal(s: Arbiter, p: Phase, sequence: bool, count: u32, w: usize, r: usize) -> u8
+    ensures { λ n. ⌜ n ≡ lentRefusal s p sequence count w r ⌝ }
 {
     if !lengths_allowed(w, r) {
         return refusal::FIFO_LENGTH;
     }
-    if !in_shape(s, p, running, count, w as u16) {
+    if !in_shape(s, p, sequence, count, w as u16) {
         return refusal::SHAPE;
     }
     refusal::ACCEPTED
@@ -30,15 +30,15 @@ pub fn lent_refusal(s: Arbiter, p: Phase, running: bool, count: u32, w: usize, r
 pub fn bus_refusal(
     s: Arbiter,
     p: Phase,
-    running: bool,
+    sequence: bool,
     count: u32,
     w: usize,
     r: usize,
     o: u64,
 ) -> u8
-    ensures { λ n. ⌜ n ≡ busRefusal s p running count w r o ⌝ }
+    ensures { λ n. ⌜ n ≡ busRefusal s p sequence count w r o ⌝ }
 {
-    let n = lent_refusal(s, p, running, count, w, r);
+    let n = lent_refusal(s, p, sequence, count, w, r);
     if n != refusal::ACCEPTED {
         return n;
     }
@@ -64,7 +64,7 @@ fn executes(p: Phase) -> bool
 pub fn answer_refusal(
     s: Arbiter,
     p: Phase,
-    running: bool,
+    sequence: bool,
     count: u32,
     w: usize,
     r: usize,
@@ -72,9 +72,9 @@ pub fn answer_refusal(
     other: u32,
     n: usize,
 ) -> u8
-    ensures { λ m. ⌜ m ≡ answerRefusal s p running count w r this other n ⌝ }
+    ensures { λ m. ⌜ m ≡ answerRefusal s p sequence count w r this other n ⌝ }
 {
-    let lent = lent_refusal(s, p, running, count, w, r);
+    let lent = lent_refusal(s, p, sequence, count, w, r);
     if lent != refusal::ACCEPTED {
         return lent;
     }
@@ -88,10 +88,10 @@ pub fn answer_refusal(
 }
 
 // 6, 5.
-pub fn pcr_refusal(s: Arbiter, p: Phase, running: bool, count: u32, index: PcrIndex) -> u8
-    ensures { λ n. ⌜ n ≡ pcrRefusal s p running count (index .0) ⌝ }
+pub fn pcr_refusal(s: Arbiter, p: Phase, sequence: bool, count: u32, index: PcrIndex) -> u8
+    ensures { λ n. ⌜ n ≡ pcrRefusal s p sequence count (index .0) ⌝ }
 {
-    if !in_shape(s, p, running, count, FIFO_GREATEST) {
+    if !in_shape(s, p, sequence, count, FIFO_GREATEST) {
         return refusal::SHAPE;
     }
     let i = index.0 as usize;

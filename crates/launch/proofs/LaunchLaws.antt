@@ -8,7 +8,7 @@ use Rattle.arbiter.specs.declared.Locality.{Locality}
 use Rattle.arbiter.specs.declared.Arbiter.{Arbiter}
 use Rattle.pcr.specs.Bank.{valueAt, replaced}
 use Rattle.pcr.specs.declared.Pcr.{Pcr}
-use Rattle.sha1.specs.Sha1.{sha1}
+use Rattle.sha1_block.specs.Sha1.{sha1}
 use Rattle.sha1.specs.Stream.{finishOf}
 use Rattle.record.specs.declared.Launch.{Launch}
 use Rattle.registers.specs.declared.Register.{Register}
@@ -17,13 +17,13 @@ use Rattle.launch.specs.declared.HashStep.{HashStep}
 use Rattle.launch.specs.declared.HashStep.the-variants.{NoStep, Start, Data}
 use Rattle.launch.specs.Launch.{hashStep, hashFull, launchAfter, measured, pcrsAfter}
 
-module _ (g h : Register) (x : Locality) (running : Bool) (s : Arbiter) (r : HashStep) where
-  pub step-case : g ≡ h → r ≡ hashStep h x running s → r ≡ hashStep g x running s
-  step-case e q = q ∙ ap (λ (z : Register). hashStep z x running s) (sym e)
+module _ (g h : Register) (x : Locality) (sequence : Bool) (s : Arbiter) (r : HashStep) where
+  pub step-case : g ≡ h → r ≡ hashStep h x sequence s → r ≡ hashStep g x sequence s
+  step-case e q = q ∙ ap (λ (z : Register). hashStep z x sequence s) (sym e)
 
-  pub step-start : (b : Bool) → g ≡ HashStart → b ≡ hashStarted s .emptied → r ≡ cond b Start NoStep → r ≡ hashStep g x running s
+  pub step-start : (b : Bool) → g ≡ HashStart → b ≡ hashStarted s .emptied → r ≡ cond b Start NoStep → r ≡ hashStep g x sequence s
   unfolding hashStep
-  step-start b e i q = q ∙ ap (λ (z : Bool). cond z Start NoStep) i ∙ ap (λ (z : Register). hashStep z x running s) (sym e)
+  step-start b e i q = q ∙ ap (λ (z : Bool). cond z Start NoStep) i ∙ ap (λ (z : Register). hashStep z x sequence s) (sym e)
 
 module _ (h k : HashStep) (e : h ≡ k) where
   pub full-case : (count : ℕ) (b : Bool) → b ≡ hashFull k count → b ≡ hashFull h count

@@ -9,7 +9,7 @@ use Rattle.arbiter.specs.declared.Locality.{Locality}
 use Rattle.arbiter.specs.declared.Arbiter.{Arbiter}
 use Rattle.pcr.specs.Bank.{valueAt, replaced, launched}
 use Rattle.pcr.specs.declared.Pcr.{Pcr}
-use Rattle.sha1.specs.Sha1.{sha1}
+use Rattle.sha1_block.specs.Sha1.{sha1}
 use Rattle.sha1.specs.Stream.{begun, joinOf, finishOf}
 use Rattle.record.specs.Limits.{hashLimit}
 use Rattle.record.specs.Record.{closedLaunch}
@@ -22,17 +22,17 @@ use Rattle.launch.specs.declared.HashStep.the-variants.{NoStep, Start, D
 -- "Start counts if the device is free or 4 is active, else it is ignored"; "With no sequence open, end is ignored"; "4024..4027 takes hash
 -- data while a sequence is open"
 unfoldable pub hashStep : Register → Locality → Bool → Arbiter → HashStep
-hashStep HashStart x running s = cond (hashStarted s .emptied) Start NoStep
-hashStep HashEnd x running s = cond running End NoStep
-hashStep Fifo x running s = cond (running && eqb (x .0) 4) Data NoStep
-hashStep Access x running s = NoStep
-hashStep (IntEnable i) x running s = NoStep
-hashStep IntVector x running s = NoStep
-hashStep (IntStatus i) x running s = NoStep
-hashStep (Capability i) x running s = NoStep
-hashStep (Sts i) x running s = NoStep
-hashStep (Identity i) x running s = NoStep
-hashStep Hole x running s = NoStep
+hashStep HashStart x sequence s = cond (hashStarted s .emptied) Start NoStep
+hashStep HashEnd x sequence s = cond sequence End NoStep
+hashStep Fifo x sequence s = cond (sequence && eqb (x .0) 4) Data NoStep
+hashStep Access x sequence s = NoStep
+hashStep (IntEnable i) x sequence s = NoStep
+hashStep IntVector x sequence s = NoStep
+hashStep (IntStatus i) x sequence s = NoStep
+hashStep (Capability i) x sequence s = NoStep
+hashStep (Sts i) x sequence s = NoStep
+hashStep (Identity i) x sequence s = NoStep
+hashStep Hole x sequence s = NoStep
 
 -- 7: "hash byte number 1,048,577 or later"
 abbrev pub hashFull : HashStep → ℕ → Bool
@@ -44,8 +44,8 @@ hashFull End count = false
 -- "a new SHA-1 begun (also if one was open). Data bytes join it. End: .. the sequence closes and keeps nothing of the stream"
 unfoldable pub launchAfter : HashStep → Launch → ℕ → Launch
 launchAfter NoStep l v = l
-launchAfter Start l v = record { running = true; stream = begun }
-launchAfter Data l v = record { running = l .running; stream = joinOf (l .stream) v }
+launchAfter Start l v = record { sequence = true; stream = begun }
+launchAfter Data l v = record { sequence = l .sequence; stream = joinOf (l .stream) v }
 launchAfter End l v = closedLaunch
 
 -- "PCR 17 becomes SHA-1 of its 20 bytes followed by the 20-byte digest"

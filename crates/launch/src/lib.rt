@@ -40,13 +40,13 @@ fn start_counts(s: Arbiter) -> bool
     c.emptied
 }
 
-pub fn hash_step(g: Register, x: Locality, running: bool, s: Arbiter) -> HashStep
-    ensures { λ r. ⌜ r ≡ hashStep g x running s ⌝ }
+pub fn hash_step(g: Register, x: Locality, sequence: bool, s: Arbiter) -> HashStep
+    ensures { λ r. ⌜ r ≡ hashStep g x sequence s ⌝ }
 {
     match g {
         Register::HashStart => step_if(start_counts(s), HashStep::Start),
-        Register::HashEnd => step_if(running, HashStep::End),
-        Register::Fifo => step_if(running & (x.0 == 4), HashStep::Data),
+        Register::HashEnd => step_if(sequence, HashStep::End),
+        Register::Fifo => step_if(sequence & (x.0 == 4), HashStep::Data),
         Register::Access => HashStep::NoStep,
         Register::IntEnable(_i) => HashStep::NoStep,
         Register::IntVector => HashStep::NoStep,
@@ -70,21 +70,21 @@ pub fn hash_full(h: HashStep, count: u32) -> bool
 }
 
 fn begun() -> Launch
-    ensures { λ r. ⌜ r ≡ record { running = true; stream = begunStream } ⌝ }
+    ensures { λ r. ⌜ r ≡ record { sequence = true; stream = begunStream } ⌝ }
 {
     Launch {
-        running: true,
+        sequence: true,
         stream: sha1::begin(),
     }
 }
 
 fn joined(l: Launch, v: u8) -> Launch
     requires { ⌜ l .stream .count + 1 < 2 ^ 32 ⌝ }
-    ensures { λ r. ⌜ r ≡ record { running = l .running; stream = joinOf (l .stream) v } ⌝ }
+    ensures { λ r. ⌜ r ≡ record { sequence = l .sequence; stream = joinOf (l .stream) v } ⌝ }
 {
     let s = l.stream;
     Launch {
-        running: l.running,
+        sequence: l.sequence,
         stream: sha1::join(s, v),
     }
 }

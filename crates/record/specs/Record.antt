@@ -20,13 +20,13 @@ abbrev pub freshControl : Bool → ℕ → Control
 freshControl established run =
     record {
       arbiter = freshArbiter;
-      interrupts = record { armed = false; enable = noCauses; status = noCauses };
+      interrupts = record { global = false; enable = noCauses; status = noCauses };
       established = established;
       run = run;
     }
 
 abbrev pub closedLaunch : Launch
-closedLaunch = record { running = false; stream = nothing }
+closedLaunch = record { sequence = false; stream = nothing }
 
 unfoldable pub freshDevice : Bool → List ℕ → ℕ → Device
 freshDevice established identity run =

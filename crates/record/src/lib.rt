@@ -1,4 +1,4 @@
-// The device record (document 01, 'What the device record carries'), its limits, its fresh value and the shape rule.
+// The device record (document 01, 'What the device record carries'), its limits and its fresh value.
 ghost use mathlib.Core.Path.{_≡_};
 ghost use Rattle.record.specs.Record.{noCauses, freshControl, closedLaunch, freshDevice};
 use arbiter::Arbiter;
@@ -6,7 +6,6 @@ use pcr::Pcr;
 use sha1::Stream;
 
 pub mod limits;
-pub mod shape;
 
 // The phase, with its counts: bytes received; bytes received; answer length and bytes read.
 pub enum Phase {
@@ -26,7 +25,7 @@ pub struct Causes {
 
 // INT_ENABLE's global bit (globalIntEnable, bit 31), its three causes, and INT_STATUS.
 pub struct Interrupts {
-    pub armed: bool,
+    pub global: bool,
     pub enable: Causes,
     pub status: Causes,
 }
@@ -41,7 +40,7 @@ pub struct Control {
 
 // The hash sequence: whether one is open, and its stream, which is `nothing` while none is.
 pub struct Launch {
-    pub running: bool,
+    pub sequence: bool,
     pub stream: Stream,
 }
 
@@ -69,7 +68,7 @@ fn fresh_control(established: bool, run: u32) -> Control
     Control {
         arbiter: arbiter::fresh(),
         interrupts: Interrupts {
-            armed: false,
+            global: false,
             enable: no_causes(),
             status: no_causes(),
         },
@@ -82,7 +81,7 @@ pub fn closed_launch() -> Launch
     ensures { λ r. ⌜ r ≡ closedLaunch ⌝ }
 {
     Launch {
-        running: false,
+        sequence: false,
         stream: sha1::nothing(),
     }
 }

@@ -12,8 +12,10 @@ pendingRequest s x = anyWaits (s .waiting)
 
 -- "bit 7 always 1; 5 this locality active; 4 it was seized; 2 pendingRequest ..; 1 this locality waits; 0 the inverse of established.
 -- Bits 6 and 3 read 0."
-unfoldable pub accessByte : Arbiter → Bool → Locality → ℕ
+unfoldable pub accessBits : Bool → Bool → Bool → Bool → Bool → ℕ
+accessBits active seized pending waiting established =
+    0x80 + (cond active 0x20 0 + cond seized 0x10 0) + (cond pending 0x04 0 + cond waiting 0x02 0 + cond (not established) 0x01 0)
+
+abbrev pub accessByte : Arbiter → Bool → Locality → ℕ
 accessByte s established x =
-    0x80 + cond (holds (s .active) x) 0x20 0 + cond (getD (s .seized) (x .0) false) 0x10 0 + cond (pendingRequest s x) 0x04 0
-    + cond (waits s (x .0)) 0x02 0
-    + cond (not established) 0x01 0
+    accessBits (holds (s .active) x) (getD (s .seized) (x .0) false) (pendingRequest s x) (waits s (x .0)) established

@@ -1,10 +1,9 @@
-// The registers of a page: where each lies, what ACCESS and the interrupt registers read, and what a write to the latter stores.
+// The registers of a page: where each lies, and what ACCESS reads.
 ghost use mathlib.Core.Path.{_≡_};
 ghost use mathlib.Core.Bool.{cond};
 ghost use Prim.Native.Nat.{_≤_};
 
 pub mod access;
-pub mod interrupts;
 pub mod map;
 
 // A register of a page; the number is the byte within it, low byte first.

@@ -1,5 +1,2 @@
-pub mod RoundLaws
-pub mod BlockLaws
 pub mod StreamLaws
 pub mod OneshotLaws
-pub mod Vectors

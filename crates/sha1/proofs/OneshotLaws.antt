@@ -6,7 +6,7 @@ use native.Mathlib.Omega.{arith}
 use lib.ListN.{length, take, drop, replicate, length-append, length-drop, length-replicate, replicate-append-replicate}
 use lib.Seq.{take-all, take-at, take-length, drop-at}
 use borrow.Rule.Slice.PartMut.{midOf, putMid}
-use Rattle.sha1.specs.Sha1.{hashed, sha1}
+use Rattle.sha1_block.specs.Sha1.{hashed, sha1}
 use Rattle.sha1.specs.Stream.{finishOf}
 use Rattle.sha1.proofs.StreamLaws.{rest, length-rest, digest-of}
 

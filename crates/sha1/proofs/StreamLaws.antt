@@ -10,7 +10,7 @@ use lib.Seq.{set-at, take-at, drop-at, take-append-le, drop-append-le, take-all,
 use lib.Dec.{ltb, eqb}
 use borrow.Author.Tests.{eqb-true, eqb-false, ltb-true, ltb-false}
 use Rattle.sha1.specs.declared.Stream.{Stream}
-use Rattle.sha1.specs.Sha1.{compressOf, hashed, zeros, pad, padding, lengthField, digestOf, sha1}
+use Rattle.sha1_block.specs.Sha1.{compressOf, hashed, zeros, pad, padding, lengthField, digestOf, sha1}
 use Rattle.sha1.specs.Stream.{begun, joinOf, joinAll, withLength, finishOf}
 
 -- the bytes behind the whole blocks

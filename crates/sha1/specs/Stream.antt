@@ -6,7 +6,7 @@ use lib.ListN.{set, replicate}
 use lib.Seq.{sets}
 use lib.Dec.{ltb, eqb}
 use Rattle.sha1.specs.declared.Stream.{Stream}
-use Rattle.sha1.specs.Sha1.{compressOf, first, lengthField, digestOf}
+use Rattle.sha1_block.specs.Sha1.{compressOf, first, lengthField, digestOf}
 
 -- no message
 abbrev pub nothing : Stream

@@ -1,10 +1,7 @@
 // SHA-1 (FIPS 180-4) of a slice at once, and of a message that comes a byte at a time.
-mod block;
 mod oneshot;
 mod padding;
-mod rounds;
 mod streaming;
-mod word;
 
 pub use oneshot::extend;
 pub use oneshot::hash;

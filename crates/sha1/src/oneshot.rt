@@ -3,10 +3,10 @@ ghost use mathlib.Core.Path.{_≡_};
 ghost use mathlib.Core.List.{_++_};
 ghost use Prim.Native.Nat.{_/_, _<_, _^_};
 ghost use lib.ListN.{length};
-ghost use Rattle.sha1.specs.Sha1.{hashed, sha1};
-use super::block::FIRST;
-use super::block::compress;
+ghost use Rattle.sha1_block.specs.Sha1.{hashed, sha1};
 use super::padding::close;
+use sha1_block::block::FIRST;
+use sha1_block::block::compress;
 
 // The hash value after the whole blocks.
 fn blocks(m: &[u8]) -> [u32; 5]

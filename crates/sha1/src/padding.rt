@@ -1,10 +1,10 @@
 // The end of a message: its padding, its last block or two, and the digest.
 ghost use mathlib.Core.Path.{_≡_};
 ghost use Prim.Native.Nat.{_<_, _^_};
-ghost use Rattle.sha1.specs.Sha1.{digestOf};
+ghost use Rattle.sha1_block.specs.Sha1.{digestOf};
 ghost use Rattle.sha1.specs.Stream.{finishOf, withLength};
-use super::block::compress;
-use super::word::store;
+use sha1_block::block::compress;
+use sha1_block::word::store;
 
 // The five words as bytes.
 fn digest(h: [u32; 5]) -> [u8; 20]

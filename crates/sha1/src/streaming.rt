@@ -3,9 +3,9 @@ ghost use mathlib.Core.Path.{_≡_};
 ghost use Prim.Native.Nat.{_+_, _<_, _^_};
 ghost use Rattle.sha1.specs.Stream.{nothing, begun, joinOf, finishOf};
 use super::Stream;
-use super::block::FIRST;
-use super::block::compress;
 use super::padding::close;
+use sha1_block::block::FIRST;
+use sha1_block::block::compress;
 
 // What stands for no message.
 pub fn nothing() -> Stream

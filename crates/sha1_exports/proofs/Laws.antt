@@ -7,7 +7,7 @@ use native.Mathlib.Omega.{arith}
 use lib.ListN.{length, take, drop, drop-of-length-le}
 use lib.Seq.{take-length}
 use borrow.Author.Tests.{eq-eqb, ne-eqb, lt-ltb, le-ltb}
-use Rattle.sha1.specs.Sha1.{sha1}
+use Rattle.sha1_block.specs.Sha1.{sha1}
 use Rattle.sha1_exports.specs.Exports.{accepts, digestIn}
 
 module _ (n : ℕ) (m out : List ℕ) where

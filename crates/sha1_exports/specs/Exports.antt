@@ -4,7 +4,7 @@ use mathlib.Core.List.{List}
 use Prim.Native.Nat.{ℕ}
 use lib.ListN.{length}
 use lib.Dec.{ltb, eqb}
-use Rattle.sha1.specs.Sha1.{sha1}
+use Rattle.sha1_block.specs.Sha1.{sha1}
 
 unfoldable pub accepts : ℕ → List ℕ → List ℕ → Bool
 accepts limit m out = cond (eqb (length out) 20) (ltb (length m) limit) false

@@ -2,7 +2,7 @@
 ghost use mathlib.Core.Path.{_≡_};
 ghost use Prim.Native.Nat.{_<_, _^_};
 ghost use lib.ListN.{length};
-ghost use Rattle.sha1.specs.Sha1.{sha1};
+ghost use Rattle.sha1_block.specs.Sha1.{sha1};
 ghost use Rattle.sha1_exports.specs.Exports.{accepts, digestIn};
 use sha1::Stream;
 

@@ -5,23 +5,23 @@ use Prim.Native.Nat.{ℕ}
 use denote.Ref.{RefT, now}
 use contract.Lifetimes.{Lfts}
 use Rattle.arbiter.specs.Rules.{locality}
-use Rattle.arbiter.specs.Model.{Call, powerOn, reset, read, write, respond, pcrValue, interruptLine, mayReset, mayExtend, window}
+use Rattle.waiting.specs.Model.{Call, powerOn, reset, read, write, respond, pcrValue, interruptLine, mayReset, mayExtend, window}
 use Rattle.pcr.specs.declared.PcrIndex.{PcrIndex}
 use Rattle.pcr.specs.declared.Permission.{Permission}
 use Rattle.record.specs.declared.Device.{Device}
-use Rattle.tis.specs.declared.Outcome.{Outcome}
-use Rattle.tis.specs.declared.ReadOutcome.{ReadOutcome}
-use Rattle.tis.specs.declared.PcrOutcome.{PcrOutcome}
-use Rattle.tis.proofs.power.power_on.Reads as powerOn·contract
-use Rattle.tis.proofs.power.reset.Reads as reset·contract
-use Rattle.tis.proofs.cycles.read.Reads as read·contract
-use Rattle.tis.proofs.cycles.write.Reads as write·contract
-use Rattle.tis.proofs.answer.respond.Reads as respond·contract
-use Rattle.tis.proofs.questions.pcr_value.Reads as pcrValue·contract
-use Rattle.tis.proofs.questions.interrupt_line.Reads as interruptLine·contract
-use Rattle.tis.proofs.questions.may_reset.Reads as mayReset·contract
-use Rattle.tis.proofs.questions.may_extend.Reads as mayExtend·contract
-use Rattle.tis.proofs.questions.window.Reads as window·contract
+use Rattle.outcome.specs.declared.Outcome.{Outcome}
+use Rattle.outcome.specs.declared.ReadOutcome.{ReadOutcome}
+use Rattle.questions.specs.declared.PcrOutcome.{PcrOutcome}
+use Rattle.power.proofs.power_on.Reads as powerOn·contract
+use Rattle.power.proofs.reset.Reads as reset·contract
+use Rattle.cycles.proofs.read.Reads as read·contract
+use Rattle.cycles.proofs.write.Reads as write·contract
+use Rattle.answer.proofs.respond.Reads as respond·contract
+use Rattle.questions.proofs.pcr_value.Reads as pcrValue·contract
+use Rattle.questions.proofs.interrupt_line.Reads as interruptLine·contract
+use Rattle.questions.proofs.may_reset.Reads as mayReset·contract
+use Rattle.questions.proofs.may_extend.Reads as mayExtend·contract
+use Rattle.questions.proofs.window.Reads as window·contract
 
 -- the record and both FIFOs, of any lengths
 pub record State : Type 0 where

@@ -5,12 +5,12 @@ use Prim.Native.Nat.{ℕ, _<_, _≤_}
 use native.Mathlib.Omega.{arith}
 use lib.Dec.{eqb, leb, ltb}
 use borrow.Author.Tests.{eqb-true, eqb-false, leb-true, ltb-true, ltb-false, eq-eqb, ne-eqb, le-leb}
-use Rattle.arbiter.specs.Model.{Event, hashStart, hashEnd, nothing, accessEvent, within, writeEvent}
+use Rattle.waiting.specs.Model.{Event, hashStart, hashEnd, nothing, accessEvent, within, writeEvent}
 use Rattle.registers.specs.Map.{pageOf, placeOf, registerAbove, registerAt}
 use Rattle.registers.specs.declared.Register.{Register}
 use Rattle.registers.specs.declared.Register.the-variants.{Access, IntEnable, IntVector, IntStatus, Capability, Sts, Fifo, Identity, HashEnd, HashStart, Hole}
 use Rattle.judge.specs.Refusals.{lastOffset}
-use Rattle.tis.specs.Cycles.{registerFor}
+use Rattle.cycles.specs.Cycles.{registerFor}
 
 -- what a write of v to a register of page x is to the model
 abbrev pub eventFor : Register → ℕ → ℕ → Event

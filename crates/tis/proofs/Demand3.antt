@@ -8,13 +8,14 @@ use Prim.Native.Nat.{ℕ, zero, suc, _<_, _≤_}
 use lib.ListN.{take, drop}
 use denote.Ref.{now}
 use Rattle.arbiter.specs.Rules.{waits}
-use Rattle.arbiter.specs.Model.{Call, powerOn, Model, Holder, free, held, Event, access, requestUse, eventOf, highest, step, fresh}
-use Rattle.arbiter.specs.Waits.{events, run, modelAfter, handsOver, handovers, isRequest, isRelease, isRestart, tally, during, bound}
-use Rattle.arbiter.specs.Claims as claims
-use Rattle.arbiter.specs.Claims.{Arbitrated, holder}
-use Rattle.arbiter.proofs.Invariant.{Sound, sound, sound-fresh, sound-step, paged}
-use Rattle.arbiter.proofs.Fairness.{served}
-use Rattle.arbiter.proofs.Arbitration.{arbitrated-from}
+use Rattle.waiting.specs.Model.{Call, powerOn, Model, Holder, free, held, Event, access, requestUse, eventOf, highest, step, fresh}
+use Rattle.waiting.specs.Waits.{events, run, modelAfter, handsOver, handovers, isRequest, isRelease, isRestart, tally, during, bound}
+use Rattle.waiting.specs.Claims as claims
+use Rattle.waiting.specs.Claims.{Arbitrated}
+use Rattle.arbiter.specs.Agreement.{holder}
+use Rattle.waiting.proofs.Invariant.{Sound, sound, sound-fresh, sound-step, paged}
+use Rattle.waiting.proofs.Fairness.{served}
+use Rattle.waiting.proofs.Arbitration.{arbitrated-from}
 use Rattle.tis.proofs.Calls.{State, Step, powersOn, resets, reads, writes, responds, asksPcr, asksLine, asksReset, asksExtend, looks, Runs, none, more}
 use Rattle.tis.proofs.KeepsModel.{Keeps, power-keeps, reset-keeps, read-keeps, respond-keeps, write-keeps}
 

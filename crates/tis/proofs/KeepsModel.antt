@@ -7,43 +7,44 @@ use native.Mathlib.Omega.{arith}
 use lib.ListN.{length}
 use lib.Dec.{eqb}
 use borrow.Author.Tests.{eqb-true, eqb-false}
-use Rattle.arbiter.specs.Bits.{bit}
+use Rattle.waiting.specs.Bits.{bit}
 use Rattle.arbiter.specs.Rules.{holds, hashStarted, hashEnded, accessWritten}
-use Rattle.arbiter.specs.Model.{Call, reset, write, Model, hashStart, hashEnd, access, nothing, requestUse, release, seize, clearSeized, accessEvent, eventOf, shut, step, fresh}
-use Rattle.arbiter.specs.Claims.{Agrees}
+use Rattle.waiting.specs.Model.{Call, reset, write, Model, hashStart, hashEnd, access, nothing, requestUse, release, seize, clearSeized, accessEvent, eventOf, shut, step, fresh}
+use Rattle.arbiter.specs.Agreement.{Agrees}
 use Rattle.arbiter.specs.declared.Locality.{Locality}
 use Rattle.arbiter.specs.declared.Arbiter.{Arbiter}
 use Rattle.arbiter.specs.declared.Change.{Change}
-use Rattle.arbiter.proofs.Invariant.{Sound}
+use Rattle.waiting.proofs.Invariant.{Sound}
 use Rattle.arbiter.proofs.Agreement.{agree-fresh, agree-access, agree-start, agree-end}
 use Rattle.refusal.specs.Refusal.{accepted, fifoLength, hashLength}
 use Rattle.record.specs.Record.{freshDevice}
-use Rattle.record.specs.Shape.{lengthsAllowed}
+use Rattle.shape.specs.Shape.{lengthsAllowed}
 use Rattle.record.specs.declared.Control.{Control}
 use Rattle.record.specs.declared.Device.{Device}
 use Rattle.record.specs.declared.Phase.{Phase}
 use Rattle.record.specs.declared.Phase.the-variants.{Idle}
-use Rattle.command.specs.declared.FifoAction.the-variants.{Keep, Empty}
+use Rattle.fifos.specs.declared.FifoAction.the-variants.{Keep, Empty}
 use Rattle.record.specs.declared.Launch.{Launch}
 use Rattle.registers.specs.declared.Register.{Register}
 use Rattle.registers.specs.declared.Register.the-variants.{Access, IntEnable, IntVector, IntStatus, Capability, Sts, Fifo, Identity, HashEnd, HashStart, Hole}
-use Rattle.command.specs.Fifos.{emptied, answered}
-use Rattle.bus.specs.declared.Effect.{Effect}
-use Rattle.bus.specs.Change.{effect, ignored, arbitratedControl, arbitrated, commandedEffect}
-use Rattle.bus.specs.Writing.{ifActive, closedPage, inPage, ordinary, writeEffect}
+use Rattle.fifos.specs.Fifos.{emptied, answered}
+use Rattle.effect.specs.declared.Effect.{Effect}
+use Rattle.effect.specs.Change.{effect, ignored, arbitratedControl, arbitrated, commandedEffect}
+use Rattle.bus_write.specs.Writing.{ifActive, closedPage, inPage, ordinary, writeEffect}
 use Rattle.launch.specs.declared.HashStep.the-variants.{NoStep, Start, Data, End}
 use Rattle.launch.specs.Launch.{hashStep, hashFull, launchAfter}
-use Rattle.tis.specs.Result.{Result, result}
+use Rattle.outcome.specs.Result.{Result, result}
 use Rattle.judge.specs.Refusals.{lastOffset}
-use Rattle.tis.specs.Power.{poweredOn, refusalOf, afterReset}
-use Rattle.tis.specs.Cycles.{cycleRefusal, pageAt, registerFor, readOutcome, readAt, busRead, effectAt, stepAt, writtenAt, acceptedWrite, busWrite}
-use Rattle.tis.specs.Answer.{respondRefusal, completed, responded}
+use Rattle.power.specs.Power.{poweredOn, afterReset}
+use Rattle.judge.specs.Refusals.{refusalOf}
+use Rattle.cycles.specs.Cycles.{cycleRefusal, pageAt, registerFor, readOutcome, readAt, busRead, effectAt, stepAt, writtenAt, acceptedWrite, busWrite}
+use Rattle.answer.specs.Answer.{respondRefusal, completed, responded}
 use Rattle.judge.proofs.RefusalLaws.{bus-then}
 use Rattle.tis.proofs.Decoding.{eventFor, decoded}
 
 -- the record's active locality, waiting flags and sequence are the model's
 abbrev pub Keeps : Model → Device → Type 0
-Keeps m d = Agrees m (d .control .arbiter) (d .launch .running)
+Keeps m d = Agrees m (d .control .arbiter) (d .launch .sequence)
 
 -- ---- power-on and reset
 
@@ -145,57 +146,57 @@ module _ (k : Control) (p : Phase) where
     ordinary-same HashStart t = absurd (true≢false (sym t))
     ordinary-same Hole t = refl
 
-    page-same : (running : Bool) (g : Register) → quiet g ≡ true → inPage g x k p running size c v .control .arbiter ≡ k .arbiter
-    page-same running g t = by (closedPage x running)
+    page-same : (sequence : Bool) (g : Register) → quiet g ≡ true → inPage g x k p sequence size c v .control .arbiter ≡ k .arbiter
+    page-same sequence g t = by (closedPage x sequence)
       where
         by : (u : Bool) → cond u (ignored k p) (ordinary g x k p size c v) .control .arbiter ≡ k .arbiter
         by true = refl
         by false = ordinary-same g t
 
-    pub write-same : (running : Bool) (g : Register) → quiet g ≡ true → writeEffect g x k p running size c v .control .arbiter ≡ k .arbiter
+    pub write-same : (sequence : Bool) (g : Register) → quiet g ≡ true → writeEffect g x k p sequence size c v .control .arbiter ≡ k .arbiter
     unfolding writeEffect
-    write-same running Access t = absurd (true≢false (sym t))
-    write-same running (IntEnable i) t = page-same running (IntEnable i) t
-    write-same running IntVector t = page-same running IntVector t
-    write-same running (IntStatus i) t = page-same running (IntStatus i) t
-    write-same running (Capability i) t = page-same running (Capability i) t
-    write-same running (Sts i) t = page-same running (Sts i) t
-    write-same running Fifo t = page-same running Fifo t
-    write-same running (Identity i) t = page-same running (Identity i) t
-    write-same running HashEnd t = absurd (true≢false (sym t))
-    write-same running HashStart t = absurd (true≢false (sym t))
-    write-same running Hole t = page-same running Hole t
+    write-same sequence Access t = absurd (true≢false (sym t))
+    write-same sequence (IntEnable i) t = page-same sequence (IntEnable i) t
+    write-same sequence IntVector t = page-same sequence IntVector t
+    write-same sequence (IntStatus i) t = page-same sequence (IntStatus i) t
+    write-same sequence (Capability i) t = page-same sequence (Capability i) t
+    write-same sequence (Sts i) t = page-same sequence (Sts i) t
+    write-same sequence Fifo t = page-same sequence Fifo t
+    write-same sequence (Identity i) t = page-same sequence (Identity i) t
+    write-same sequence HashEnd t = absurd (true≢false (sym t))
+    write-same sequence HashStart t = absurd (true≢false (sym t))
+    write-same sequence Hole t = page-same sequence Hole t
 
 -- ---- writes: the sequence afterwards
 
-started-running : (b : Bool) (l : Launch) (v : ℕ) → launchAfter (cond b Start NoStep) l v .running ≡ (b || l .running)
+started-sequence : (b : Bool) (l : Launch) (v : ℕ) → launchAfter (cond b Start NoStep) l v .sequence ≡ (b || l .sequence)
 unfolding launchAfter
-started-running true l v = refl
-started-running false l v = refl
+started-sequence true l v = refl
+started-sequence false l v = refl
 
-ended-running : (b : Bool) (l : Launch) (v : ℕ) → b ≡ l .running → launchAfter (cond b End NoStep) l v .running ≡ false
+ended-sequence : (b : Bool) (l : Launch) (v : ℕ) → b ≡ l .sequence → launchAfter (cond b End NoStep) l v .sequence ≡ false
 unfolding launchAfter
-ended-running true l v e = refl
-ended-running false l v e = sym e
+ended-sequence true l v e = refl
+ended-sequence false l v e = sym e
 
-data-running : (b : Bool) (l : Launch) (v : ℕ) → launchAfter (cond b Data NoStep) l v .running ≡ l .running
+data-sequence : (b : Bool) (l : Launch) (v : ℕ) → launchAfter (cond b Data NoStep) l v .sequence ≡ l .sequence
 unfolding launchAfter
-data-running true l v = refl
-data-running false l v = refl
+data-sequence true l v = refl
+data-sequence false l v = refl
 
-pub quiet-running : (g : Register) (x : Locality) (d : Device) (v : ℕ) → quiet (d .control) (d .phase) g ≡ true → launchAfter (stepAt g x d) (d .launch) v .running ≡ d .launch .running
+pub quiet-sequence : (g : Register) (x : Locality) (d : Device) (v : ℕ) → quiet (d .control) (d .phase) g ≡ true → launchAfter (stepAt g x d) (d .launch) v .sequence ≡ d .launch .sequence
 unfolding hashStep launchAfter
-quiet-running Access x d v t = absurd (true≢false (sym t))
-quiet-running (IntEnable i) x d v t = refl
-quiet-running IntVector x d v t = refl
-quiet-running (IntStatus i) x d v t = refl
-quiet-running (Capability i) x d v t = refl
-quiet-running (Sts i) x d v t = refl
-quiet-running Fifo x d v t = data-running (d .launch .running && eqb (x .0) 4) (d .launch) v
-quiet-running (Identity i) x d v t = refl
-quiet-running HashEnd x d v t = absurd (true≢false (sym t))
-quiet-running HashStart x d v t = absurd (true≢false (sym t))
-quiet-running Hole x d v t = refl
+quiet-sequence Access x d v t = absurd (true≢false (sym t))
+quiet-sequence (IntEnable i) x d v t = refl
+quiet-sequence IntVector x d v t = refl
+quiet-sequence (IntStatus i) x d v t = refl
+quiet-sequence (Capability i) x d v t = refl
+quiet-sequence (Sts i) x d v t = refl
+quiet-sequence Fifo x d v t = data-sequence (d .launch .sequence && eqb (x .0) 4) (d .launch) v
+quiet-sequence (Identity i) x d v t = refl
+quiet-sequence HashEnd x d v t = absurd (true≢false (sym t))
+quiet-sequence HashStart x d v t = absurd (true≢false (sym t))
+quiet-sequence Hole x d v t = refl
 
 -- ---- writes: the model
 
@@ -213,27 +214,27 @@ shut-nothing m x v e = by (eqb (bit 5 v + bit 4 v + bit 3 v + bit 1 v) 1) (eqb (
 module _ (m : Model) (d : Device) (w r : List ℕ) (v : ℕ) (a : Keeps m d) where
   -- agreement with what a write to a register leaves
   abbrev Wrote : Register → Locality → Type 0
-  Wrote g x = Agrees (step m (eventFor g (x .0) v)) (effectAt g x d w v .control .arbiter) (launchAfter (stepAt g x d) (d .launch) v .running)
+  Wrote g x = Agrees (step m (eventFor g (x .0) v)) (effectAt g x d w v .control .arbiter) (launchAfter (stepAt g x d) (d .launch) v .sequence)
 
   moved : (n : Model) (s s′ : Arbiter) (o o′ : Bool) → s′ ≡ s → o′ ≡ o → Agrees n s o → Agrees n s′ o′
   moved n s s′ o o′ p q b = rw (p, q) b
 
   wrote-quiet : (g : Register) (x : Locality) → quiet (d .control) (d .phase) g ≡ true → eventFor g (x .0) v ≡ nothing → Wrote g x
   wrote-quiet g x t e =
-      rw e (moved m (d .control .arbiter) _ (d .launch .running) _ (write-same (d .control) (d .phase) x _ _ v (d .launch .running) g t) (quiet-running g x d v t) a)
+      rw e (moved m (d .control .arbiter) _ (d .launch .sequence) _ (write-same (d .control) (d .phase) x _ _ v (d .launch .sequence) g t) (quiet-sequence g x d v t) a)
 
   wrote-access : (x : Locality) → x .0 < 5 → Sound m → Wrote Access x
   unfolding writeEffect ordinary hashStep launchAfter
-  wrote-access x l s = by (closedPage x (d .launch .running)) refl
+  wrote-access x l s = by (closedPage x (d .launch .sequence)) refl
     where
-      closed-is : shut m (x .0) ≡ closedPage x (d .launch .running)
+      closed-is : shut m (x .0) ≡ closedPage x (d .launch .sequence)
       closed-is = ap (λ (z : Bool). z && eqb (x .0) 4) (a .sequenceOpen)
 
-      by : (t : Bool) → closedPage x (d .launch .running) ≡ t
-          → Agrees (step m (accessEvent (x .0) v)) (cond t (ignored (d .control) (d .phase)) (arbitrated (d .control) (d .phase) (d .control .established) (accessWritten (d .control .arbiter) x v)) .control .arbiter) (d .launch .running)
+      by : (t : Bool) → closedPage x (d .launch .sequence) ≡ t
+          → Agrees (step m (accessEvent (x .0) v)) (cond t (ignored (d .control) (d .phase)) (arbitrated (d .control) (d .phase) (d .control .established) (accessWritten (d .control .arbiter) x v)) .control .arbiter) (d .launch .sequence)
       by true e = rw (shut-nothing m (x .0) v (closed-is ∙ e)) a
       by false e =
-          moved (step m (accessEvent (x .0) v)) _ _ (d .launch .running) _
+          moved (step m (accessEvent (x .0) v)) _ _ (d .launch .sequence) _
           (arbitrated-arbiter (d .control) (d .phase) (d .control .established) (accessWritten (d .control .arbiter) x v)) refl (agree-access a x l s (closed-is ∙ e) v)
 
   wrote-start : (x : Locality) → Wrote HashStart x
@@ -241,14 +242,14 @@ module _ (m : Model) (d : Device) (w r : List ℕ) (v : ℕ) (a : Keeps m d) whe
   wrote-start x =
       moved (step m hashStart) _ _ _ _
       (arbitrated-arbiter (d .control) (d .phase) (d .control .established || hashStarted (d .control .arbiter) .emptied) (hashStarted (d .control .arbiter)))
-      (started-running (hashStarted (d .control .arbiter) .emptied) (d .launch) v) (agree-start a)
+      (started-sequence (hashStarted (d .control .arbiter) .emptied) (d .launch) v) (agree-start a)
 
   wrote-end : (x : Locality) → Wrote HashEnd x
   unfolding writeEffect hashStep
   wrote-end x =
       moved (step m hashEnd) _ _ _ _
-      (arbitrated-arbiter (d .control) (d .phase) (d .control .established) (hashEnded (d .launch .running) (d .control .arbiter)))
-      (ended-running (d .launch .running) (d .launch) v refl) (agree-end a)
+      (arbitrated-arbiter (d .control) (d .phase) (d .control .established) (hashEnded (d .launch .sequence) (d .control .arbiter)))
+      (ended-sequence (d .launch .sequence) (d .launch) v refl) (agree-end a)
 
   wrote : (g : Register) (x : Locality) → x .0 < 5 → Sound m → Wrote g x
   wrote Access x l s = wrote-access x l s

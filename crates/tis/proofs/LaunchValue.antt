@@ -10,27 +10,28 @@ use lib.ListN.{length, length-set, length-drop, length-append, replicate, take, 
 use lib.Seq.{length-take-le}
 use lib.Dec.{eqb, ltb}
 use denote.Ref.{now}
-use Rattle.arbiter.specs.Bits.{bit}
-use Rattle.arbiter.specs.Model.{Call, powerOn, reset, write, Model, Holder, free, held, AccessBit, requestUse, release, seize, clearSeized, Event, restart, hashStart, hashEnd, access, nothing, eventOf, accessEvent, handover, wait, withdraw, acquire, start, obey, shut, step, fresh}
-use Rattle.arbiter.specs.Waits.{events, run, modelAfter}
+use Rattle.waiting.specs.Bits.{bit}
+use Rattle.waiting.specs.Model.{Call, powerOn, reset, write, Model, Holder, free, held, AccessBit, requestUse, release, seize, clearSeized, Event, restart, hashStart, hashEnd, access, nothing, eventOf, accessEvent, handover, wait, withdraw, acquire, start, obey, shut, step, fresh}
+use Rattle.waiting.specs.Waits.{events, run, modelAfter}
 use Rattle.arbiter.specs.declared.Locality.{Locality}
-use Rattle.arbiter.proofs.Invariant.{Sound, sound-fresh, sound-step, paged}
-use Rattle.sha1.specs.Sha1.{sha1}
+use Rattle.waiting.proofs.Invariant.{Sound, sound-fresh, sound-step, paged}
+use Rattle.sha1_block.specs.Sha1.{sha1}
 use Rattle.pcr.specs.Bank as bank
 use Rattle.pcr.specs.Bank.{pcrs, pcr, allBytes, valueAt, dynamic, withDynamic, launched}
 use Rattle.pcr.specs.declared.Pcr.{Pcr}
 use Rattle.pcr.proofs.BankAt.{launched-at, replaced-at}
 use Rattle.refusal.specs.Refusal.{accepted, fifoLength}
 use Rattle.record.specs.Record.{freshDevice}
-use Rattle.record.specs.Shape.{lengthsAllowed}
+use Rattle.shape.specs.Shape.{lengthsAllowed}
 use Rattle.record.specs.declared.Device.{Device}
 use Rattle.registers.specs.declared.Register.{Register}
 use Rattle.registers.specs.declared.Register.the-variants.{Access, IntEnable, IntVector, IntStatus, Capability, Sts, Fifo, Identity, HashEnd, HashStart, Hole}
-use Rattle.command.specs.Fifos.{emptied}
+use Rattle.fifos.specs.Fifos.{emptied}
 use Rattle.launch.specs.Launch.{hashStep, pcrsAfter}
-use Rattle.tis.specs.Result.{Result, result}
-use Rattle.tis.specs.Power.{poweredOn, refusalOf, afterReset}
-use Rattle.tis.specs.Cycles.{pageAt, registerFor, stepAt, busWrite}
+use Rattle.outcome.specs.Result.{Result, result}
+use Rattle.power.specs.Power.{poweredOn, afterReset}
+use Rattle.judge.specs.Refusals.{refusalOf}
+use Rattle.cycles.specs.Cycles.{pageAt, registerFor, stepAt, busWrite}
 use Rattle.tis.specs.Streams.{startCounts, streamAfter, changesPcrs}
 use Rattle.tis.proofs.Calls.{State, Step, powersOn, resets, reads, writes, responds, asksPcr, asksLine, asksReset, asksExtend, looks, Runs, none, more}
 use Rattle.tis.proofs.Decoding.{eventFor, decoded}
@@ -210,7 +211,7 @@ all-banked m (more {c = c} {n = n} p ps) a h b =
 
 pub record LaunchValue (m : Model) (bs : List ℕ) (s : State) : Type 0 where
   -- the record's sequence is open exactly when the model's is
-  pub sequence : s .device .launch .running ≡ m .sequence
+  pub sequence : s .device .launch .sequence ≡ m .sequence
   pub banked : Banked m (s .device .pcrs)
   -- the end of an open sequence: PCR 17 is the launch's measurement, and every other PCR stays
   pub value : (o v : ℕ) (s′ : State) → Step (write o v) s accepted s′ → 0x4020 ≤ o → o ≤ 0x4023 → m .sequence ≡ true

@@ -11,37 +11,38 @@ use lib.Dec.{eqb}
 use borrow.Author.Tests.{eqb-true, eqb-false}
 use denote.Ref.{now}
 use Rattle.arbiter.specs.Rules.{emptying, quietly, hashStarted, startWith}
-use Rattle.arbiter.specs.Model.{Call, powerOn, reset, write, Model, nothing, eventOf, step, fresh}
-use Rattle.arbiter.specs.Waits.{events, run, modelAfter}
-use Rattle.arbiter.specs.Claims.{Agrees, holder}
+use Rattle.waiting.specs.Model.{Call, powerOn, reset, write, Model, nothing, eventOf, step, fresh}
+use Rattle.waiting.specs.Waits.{events, run, modelAfter}
+use Rattle.arbiter.specs.Agreement.{Agrees, holder}
 use Rattle.arbiter.specs.declared.Locality.{Locality}
 use Rattle.arbiter.specs.declared.Owner.{Owner}
 use Rattle.arbiter.specs.declared.Owner.the-variants.{Nobody, Held}
 use Rattle.arbiter.specs.declared.Arbiter.{Arbiter}
-use Rattle.arbiter.proofs.Invariant.{Sound, sound-fresh, sound-step, paged}
+use Rattle.waiting.proofs.Invariant.{Sound, sound-fresh, sound-step, paged}
 use Rattle.sha1.specs.declared.Stream.{Stream}
-use Rattle.sha1.specs.Sha1.{sha1}
+use Rattle.sha1_block.specs.Sha1.{sha1}
 use Rattle.sha1.specs.Stream.{nothing as noStream, begun, joinOf, joinAll, finishOf}
 use Rattle.sha1.proofs.StreamLaws.{all-none, all-snoc, digest}
 use Rattle.pcr.specs.Bank.{valueAt, replaced, launched}
 use Rattle.refusal.specs.Refusal.{accepted, hashLength, fifoLength}
 use Rattle.record.specs.Record.{freshDevice}
-use Rattle.record.specs.Shape.{lengthsAllowed}
+use Rattle.shape.specs.Shape.{lengthsAllowed}
 use Rattle.record.specs.declared.Device.{Device}
 use Rattle.record.specs.declared.Launch.{Launch}
 use Rattle.registers.specs.Map.{pageOf, placeOf, registerAbove, registerAt}
 use Rattle.registers.specs.declared.Register.{Register}
 use Rattle.registers.specs.declared.Register.the-variants.{Access, IntEnable, IntVector, IntStatus, Capability, Sts, Fifo, Identity, HashEnd, HashStart, Hole}
-use Rattle.command.specs.Fifos.{emptied, answered}
+use Rattle.fifos.specs.Fifos.{emptied, answered}
 use Rattle.launch.specs.declared.HashStep.{HashStep}
 use Rattle.launch.specs.declared.HashStep.the-variants.{NoStep, Start, Data, End}
 use Rattle.launch.specs.Launch.{hashStep, hashFull, launchAfter, pcrsAfter}
-use Rattle.tis.specs.declared.ReadOutcome.{ReadOutcome}
-use Rattle.tis.specs.Result.{Result, result}
+use Rattle.outcome.specs.declared.ReadOutcome.{ReadOutcome}
+use Rattle.outcome.specs.Result.{Result, result}
 use Rattle.judge.specs.Refusals.{lastOffset}
-use Rattle.tis.specs.Power.{poweredOn, refusalOf, afterReset}
-use Rattle.tis.specs.Cycles.{cycleRefusal, pageAt, registerFor, readOutcome, readAt, busRead, stepAt, writtenAt, acceptedWrite, busWrite}
-use Rattle.tis.specs.Answer.{respondRefusal, completed, responded}
+use Rattle.power.specs.Power.{poweredOn, afterReset}
+use Rattle.judge.specs.Refusals.{refusalOf}
+use Rattle.cycles.specs.Cycles.{cycleRefusal, pageAt, registerFor, readOutcome, readAt, busRead, stepAt, writtenAt, acceptedWrite, busWrite}
+use Rattle.answer.specs.Answer.{respondRefusal, completed, responded}
 use Rattle.tis.specs.Streams.{startCounts, streamWritten, streamStep, streamAfter, changesPcrs}
 use Rattle.judge.proofs.RefusalLaws.{bus-then}
 use Rattle.tis.proofs.Calls.{State, Step, powersOn, resets, reads, writes, responds, asksPcr, asksLine, asksReset, asksExtend, looks, Runs, none, more}
@@ -128,10 +129,10 @@ module _ (m : Model) (bs : List ℕ) (o v : ℕ) (l : o ≤ lastOffset) where
 
 -- an open sequence stands for bs; a closed one keeps nothing
 pub record Stands (l : Launch) (bs : List ℕ) : Type 0 where
-  pub opened : l .running ≡ true → l .stream ≡ joinAll begun bs
-  pub closed : l .running ≡ false → l .stream ≡ noStream
+  pub opened : l .sequence ≡ true → l .stream ≡ joinAll begun bs
+  pub closed : l .sequence ≡ false → l .stream ≡ noStream
 
-stands-closed : (l : Launch) (bs : List ℕ) → l .running ≡ false → l .stream ≡ noStream → Stands l bs
+stands-closed : (l : Launch) (bs : List ℕ) → l .sequence ≡ false → l .stream ≡ noStream → Stands l bs
 stands-closed l bs p q = record { opened = λ e. absurd (true≢false (sym e ∙ p)); closed = λ e. q }
 
 stands-fresh : (established : Bool) (identity : List ℕ) (run : ℕ) (bs : List ℕ) → Stands (freshDevice established identity run .launch) bs
@@ -164,7 +165,7 @@ module _ (m : Model) (d : Device) (bs : List ℕ) (v : ℕ) (a : Keeps m d) (t :
 
   after-end : (x : Locality) → After HashEnd x
   unfolding hashStep launchAfter
-  after-end x = rw (a .sequenceOpen) (by (d .launch .running))
+  after-end x = rw (a .sequenceOpen) (by (d .launch .sequence))
     where
       by : (b : Bool) → Stands (launchAfter (cond b End NoStep) (d .launch) v) (cond b [] bs)
       by true = stands-closed _ [] refl refl
@@ -172,9 +173,9 @@ module _ (m : Model) (d : Device) (bs : List ℕ) (v : ℕ) (a : Keeps m d) (t :
 
   after-data : (x : Locality) → After Fifo x
   unfolding hashStep launchAfter
-  after-data x = rw (a .sequenceOpen) (by (d .launch .running) refl (eqb (x .0) 4))
+  after-data x = rw (a .sequenceOpen) (by (d .launch .sequence) refl (eqb (x .0) 4))
     where
-      by : (b : Bool) → d .launch .running ≡ b → (u : Bool) → Stands (launchAfter (cond (b && u) Data NoStep) (d .launch) v) (cond (b && u) (bs ++ (v ∷ [])) bs)
+      by : (b : Bool) → d .launch .sequence ≡ b → (u : Bool) → Stands (launchAfter (cond (b && u) Data NoStep) (d .launch) v) (cond (b && u) (bs ++ (v ∷ [])) bs)
       by true e true =
           record {
             opened = λ q. ap (λ (z : Stream). joinOf z v) (t .opened q) ∙ sym (all-snoc bs v begun);
@@ -273,7 +274,7 @@ module _ (m : Model) (d : Device) (a : Keeps m d) (v : ℕ) where
   unfolding hashStep pcrsAfter
   pcrs-kept HashStart x e = rw (counts-same a ∙ e) refl
   pcrs-kept HashEnd x e = rw (sym (a .sequenceOpen) ∙ e) refl
-  pcrs-kept Fifo x e = by (d .launch .running && eqb (x .0) 4)
+  pcrs-kept Fifo x e = by (d .launch .sequence && eqb (x .0) 4)
     where
       by : (b : Bool) → pcrsAfter (cond b Data NoStep) (d .launch) (d .pcrs) ≡ d .pcrs
       by true = refl

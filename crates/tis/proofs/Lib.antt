@@ -1,4 +1,3 @@
-pub mod CallLaws
 pub mod Calls
 pub mod Decoding
 pub mod KeepsModel

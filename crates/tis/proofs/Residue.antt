@@ -12,8 +12,8 @@ use borrow.Author.Tests.{eqb-true, eqb-false}
 use denote.Ref.{now}
 use Rattle.refusal.specs.Refusal.{accepted, fifoLength, hashLength, run}
 use Rattle.arbiter.specs.Rules.{waits, holds, quietly, emptying, withActive, withWaiting, withSeized, highest, handTo, handedOver, commandOf, requestWith, requested, released, seizeWith, seizedBy, seizedCleared, obeyed, accessWritten, startWith, hashStarted, hashEnded}
-use Rattle.arbiter.specs.Model.{Call, powerOn, free}
-use Rattle.arbiter.specs.Claims.{holder}
+use Rattle.waiting.specs.Model.{Call, powerOn, free}
+use Rattle.arbiter.specs.Agreement.{holder}
 use Rattle.arbiter.specs.declared.AccessCommand.{AccessCommand}
 use Rattle.arbiter.specs.declared.AccessCommand.the-variants as access
 use Rattle.arbiter.specs.declared.Arbiter.{Arbiter}
@@ -23,31 +23,32 @@ use Rattle.arbiter.specs.declared.Owner.{Owner}
 use Rattle.arbiter.specs.declared.Owner.the-variants.{Nobody, Held}
 use Rattle.record.specs.Limits.{header}
 use Rattle.record.specs.Record.{noCauses, freshDevice}
-use Rattle.record.specs.Shape.{lengthsAllowed}
+use Rattle.shape.specs.Shape.{lengthsAllowed}
 use Rattle.record.specs.declared.Control.{Control}
 use Rattle.record.specs.declared.Device.{Device}
 use Rattle.record.specs.declared.Phase.{Phase}
 use Rattle.record.specs.declared.Phase.the-variants.{Idle, Ready, Reception, Execution, Completion}
 use Rattle.registers.specs.declared.Register.{Register}
 use Rattle.registers.specs.declared.Register.the-variants.{Access, IntEnable, IntVector, IntStatus, Capability, Sts, Fifo, Identity, HashEnd, HashStart, Hole}
-use Rattle.command.specs.Size.{declared, moreAfter}
+use Rattle.status.specs.Size.{declared, moreAfter}
 use Rattle.command.specs.Sts as sts
 use Rattle.command.specs.Sts.{stsObeyed, stsWritten, stored}
-use Rattle.command.specs.Fifos.{emptied, answered, badSize, writeAfter, readAfter, afterRead}
+use Rattle.fifos.specs.Fifos.{emptied, answered, badSize, writeAfter, readAfter, afterRead}
 use Rattle.command.specs.declared.Commanded.{Commanded}
 use Rattle.command.specs.declared.StsCommand.{StsCommand}
 use Rattle.command.specs.declared.StsCommand.the-variants.{Nothing, CommandReady, Go, ResponseRetry}
-use Rattle.command.specs.declared.FifoAction.{FifoAction}
-use Rattle.command.specs.declared.FifoAction.the-variants.{Keep, Empty, Store, Complain}
-use Rattle.bus.specs.declared.Effect.{Effect}
-use Rattle.bus.specs.Change.{effect, ignored, arbitratedControl, arbitrated, commandedEffect}
-use Rattle.bus.specs.Reading.{phaseAfter}
-use Rattle.bus.specs.Writing.{ifActive, closedPage, inPage, ordinary, writeEffect}
+use Rattle.fifos.specs.declared.FifoAction.{FifoAction}
+use Rattle.fifos.specs.declared.FifoAction.the-variants.{Keep, Empty, Store, Complain}
+use Rattle.effect.specs.declared.Effect.{Effect}
+use Rattle.effect.specs.Change.{effect, ignored, arbitratedControl, arbitrated, commandedEffect}
+use Rattle.bus_read.specs.Reading.{phaseAfter}
+use Rattle.bus_write.specs.Writing.{ifActive, closedPage, inPage, ordinary, writeEffect}
 use Rattle.judge.specs.Refusals.{lentRefusal, answerRefusal}
-use Rattle.tis.specs.Result.{Result, result}
-use Rattle.tis.specs.Power.{poweredOn, refusalOf, afterReset}
-use Rattle.tis.specs.Cycles.{cycleRefusal, pageAt, registerFor, readOutcome, readAt, busRead, stepAt, writtenAt, acceptedWrite, busWrite}
-use Rattle.tis.specs.Answer.{respondRefusal, completed, responded}
+use Rattle.outcome.specs.Result.{Result, result}
+use Rattle.power.specs.Power.{poweredOn, afterReset}
+use Rattle.judge.specs.Refusals.{refusalOf}
+use Rattle.cycles.specs.Cycles.{cycleRefusal, pageAt, registerFor, readOutcome, readAt, busRead, stepAt, writtenAt, acceptedWrite, busWrite}
+use Rattle.answer.specs.Answer.{respondRefusal, completed, responded}
 use Rattle.launch.specs.Launch.{hashFull}
 use Rattle.judge.proofs.RefusalLaws.{allowed-lengths, answer-fits}
 use Rattle.tis.proofs.Calls.{State, state, Step, powersOn, resets, reads, writes, responds, asksPcr, asksLine, asksReset, asksExtend, looks, Runs, none, more}
@@ -272,7 +273,7 @@ module _ (s : Arbiter) (x : Locality) where
       by Nobody = empties refl
       by (Held y) = on (eqb (y .0) 4)
 
-  gives-end : (running : Bool) → Gives s (hashEnded running s)
+  gives-end : (sequence : Bool) → Gives s (hashEnded sequence s)
   unfolding hashEnded
   gives-end true = gives-handover
   gives-end false = leaves refl refl
@@ -352,26 +353,26 @@ module _ (k : Control) (p : Phase) (w r : List ℕ) (v : ℕ) (a : After (k .arb
       good-ordinary HashStart = a
       good-ordinary Hole = a
 
-      good-page : (running : Bool) (g : Register) → Good (inPage g x k p running size c v)
-      good-page running g = by (closedPage x running)
+      good-page : (sequence : Bool) (g : Register) → Good (inPage g x k p sequence size c v)
+      good-page sequence g = by (closedPage x sequence)
         where
           by : (t : Bool) → Good (cond t (ignored k p) (ordinary g x k p size c v))
           by true = a
           by false = good-ordinary g
 
-      good-write : (running : Bool) (g : Register) → Good (writeEffect g x k p running size c v)
+      good-write : (sequence : Bool) (g : Register) → Good (writeEffect g x k p sequence size c v)
       unfolding writeEffect
-      good-write running Access = good-page running Access
-      good-write running (IntEnable i) = good-page running (IntEnable i)
-      good-write running IntVector = good-page running IntVector
-      good-write running (IntStatus i) = good-page running (IntStatus i)
-      good-write running (Capability i) = good-page running (Capability i)
-      good-write running (Sts i) = good-page running (Sts i)
-      good-write running Fifo = good-page running Fifo
-      good-write running (Identity i) = good-page running (Identity i)
-      good-write running HashEnd = good-change _ _ (gives-end (k .arbiter) x running)
-      good-write running HashStart = good-change _ _ (gives-start (k .arbiter) x)
-      good-write running Hole = good-page running Hole
+      good-write sequence Access = good-page sequence Access
+      good-write sequence (IntEnable i) = good-page sequence (IntEnable i)
+      good-write sequence IntVector = good-page sequence IntVector
+      good-write sequence (IntStatus i) = good-page sequence (IntStatus i)
+      good-write sequence (Capability i) = good-page sequence (Capability i)
+      good-write sequence (Sts i) = good-page sequence (Sts i)
+      good-write sequence Fifo = good-page sequence Fifo
+      good-write sequence (Identity i) = good-page sequence (Identity i)
+      good-write sequence HashEnd = good-change _ _ (gives-end (k .arbiter) x sequence)
+      good-write sequence HashStart = good-change _ _ (gives-start (k .arbiter) x)
+      good-write sequence Hole = good-page sequence Hole
 
 -- ---- reads
 
@@ -435,13 +436,13 @@ module _ (s : State) (established : Bool) (identity : List ℕ) where
       by false q = absurd (omega arith)
 
 -- no answer is accepted in Idle
-idle-refuses : (s : Arbiter) (p : Phase) (running : Bool) (count w r this other n : ℕ) → p ≡ Idle → answerRefusal s p running count w r this other n ≡ accepted → ⊥
+idle-refuses : (s : Arbiter) (p : Phase) (sequence : Bool) (count w r this other n : ℕ) → p ≡ Idle → answerRefusal s p sequence count w r this other n ≡ accepted → ⊥
 unfolding answerRefusal
-idle-refuses s p running count w r this other n i e = by (eqb (lentRefusal s Idle running count w r) accepted) refl (rw i at e)
+idle-refuses s p sequence count w r this other n i e = by (eqb (lentRefusal s Idle sequence count w r) accepted) refl (rw i at e)
   where
-    by : (t : Bool) → eqb (lentRefusal s Idle running count w r) accepted ≡ t → cond t run (lentRefusal s Idle running count w r) ≡ accepted → ⊥
+    by : (t : Bool) → eqb (lentRefusal s Idle sequence count w r) accepted ≡ t → cond t run (lentRefusal s Idle sequence count w r) ≡ accepted → ⊥
     by true j q = omega arith
-    by false j q = eqb-false (lentRefusal s Idle running count w r) accepted j q
+    by false j q = eqb-false (lentRefusal s Idle sequence count w r) accepted j q
 
 module _ (d : Device) (w r : List ℕ) (a : Clean (state d w r)) where
   abbrev Next : State → Type 0
@@ -470,7 +471,7 @@ module _ (d : Device) (w r : List ℕ) (a : Clean (state d w r)) where
       by : (t u : Bool)
           → Next (left (cond t (cond u (result hashLength d w r) (writtenAt (registerFor o) (pageAt o) (stepAt (registerFor o) (pageAt o) d) d w r v)) (result (cycleRefusal d w r o) d w r)))
       by true true = a
-      by true false = good-write (d .control) (d .phase) w r v a (pageAt o) (declared w) (length w) (d .launch .running) (registerFor o)
+      by true false = good-write (d .control) (d .phase) w r v a (pageAt o) (declared w) (length w) (d .launch .sequence) (registerFor o)
       by false u = a
 
   respond-follows : (number : ℕ) (b : List ℕ) → Next (left (responded d w r number b))

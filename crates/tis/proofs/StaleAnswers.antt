@@ -10,15 +10,15 @@ use lib.Dec.{eqb, leb, ltb}
 use borrow.Author.Tests.{eqb-true, eqb-false, eq-eqb, ne-eqb}
 use denote.Ref.{now}
 use Rattle.arbiter.specs.Rules.{holds}
-use Rattle.arbiter.specs.Model.{Call, powerOn, reset, read, write, respond, pcrValue, interruptLine, mayReset, mayExtend, window}
-use Rattle.arbiter.specs.Waits.{one}
+use Rattle.waiting.specs.Model.{Call, powerOn, reset, read, write, respond, pcrValue, interruptLine, mayReset, mayExtend, window}
+use Rattle.waiting.specs.Waits.{one}
 use Rattle.arbiter.specs.declared.Locality.{Locality}
 use Rattle.arbiter.specs.declared.Change.{Change}
 use Rattle.refusal.specs.Refusal as refusal
 use Rattle.refusal.specs.Refusal.{accepted, hashLength}
 use Rattle.record.specs.Limits.{header}
 use Rattle.record.specs.Record.{freshDevice, noCauses}
-use Rattle.record.specs.Shape.{lengthsAllowed}
+use Rattle.shape.specs.Shape.{lengthsAllowed}
 use Rattle.record.specs.declared.Control.{Control}
 use Rattle.record.specs.declared.Device.{Device}
 use Rattle.record.specs.declared.Phase.{Phase}
@@ -26,23 +26,24 @@ use Rattle.record.specs.declared.Phase.the-variants.{Idle, Ready, Reception, Ex
 use Rattle.registers.specs.declared.Register.{Register}
 use Rattle.registers.specs.declared.Register.the-variants.{Access, IntEnable, IntVector, IntStatus, Capability, Sts, Fifo, Identity, HashEnd, HashStart, Hole}
 use Rattle.command.specs.declared.Commanded.{Commanded}
-use Rattle.command.specs.declared.FifoAction.the-variants.{Keep, Empty, Store, Complain}
+use Rattle.fifos.specs.declared.FifoAction.the-variants.{Keep, Empty, Store, Complain}
 use Rattle.command.specs.declared.StsCommand.{StsCommand}
 use Rattle.command.specs.declared.StsCommand.the-variants.{Nothing, CommandReady, Go, ResponseRetry}
-use Rattle.command.specs.Size.{moreAfter}
+use Rattle.status.specs.Size.{moreAfter}
 use Rattle.command.specs.Sts.{commandOf, commanded, ignored, readied, nextRun, gone, retried, stsObeyed, stsWritten, stored, availCause}
-use Rattle.command.specs.Fifos.{emptied, answered, afterRead}
-use Rattle.bus.specs.Change as put
-use Rattle.bus.specs.Change.{effect, arbitrated, arbitratedControl, commandedEffect}
-use Rattle.bus.specs.Reading.{phaseAfter}
-use Rattle.bus.specs.Writing.{ifActive, closedPage, inPage, ordinary, writeEffect}
-use Rattle.bus.specs.declared.Effect.{Effect}
+use Rattle.fifos.specs.Fifos.{emptied, answered, afterRead}
+use Rattle.effect.specs.Change as put
+use Rattle.effect.specs.Change.{effect, arbitrated, arbitratedControl, commandedEffect}
+use Rattle.bus_read.specs.Reading.{phaseAfter}
+use Rattle.bus_write.specs.Writing.{ifActive, closedPage, inPage, ordinary, writeEffect}
+use Rattle.effect.specs.declared.Effect.{Effect}
 use Rattle.launch.specs.Launch.{hashFull}
 use Rattle.judge.specs.Refusals.{executes, answerRefusal}
-use Rattle.tis.specs.Result.{result}
-use Rattle.tis.specs.Power.{poweredOn, refusalOf, afterReset}
-use Rattle.tis.specs.Cycles.{cycleRefusal, pageAt, registerFor, readOutcome, readAt, busRead, stepAt, writtenAt, acceptedWrite, busWrite}
-use Rattle.tis.specs.Answer.{respondRefusal, completed, responded}
+use Rattle.outcome.specs.Result.{result}
+use Rattle.power.specs.Power.{poweredOn, afterReset}
+use Rattle.judge.specs.Refusals.{refusalOf}
+use Rattle.cycles.specs.Cycles.{cycleRefusal, pageAt, registerFor, readOutcome, readAt, busRead, stepAt, writtenAt, acceptedWrite, busWrite}
+use Rattle.answer.specs.Answer.{respondRefusal, completed, responded}
 use Rattle.tis.proofs.Calls.{State, Step, powersOn, resets, reads, writes, responds, asksPcr, asksLine, asksReset, asksExtend, looks, Runs, none, more}
 
 -- ---- what a call does to the run number and to Execution
@@ -155,27 +156,27 @@ module _ (k : Control) (p : Phase) where
     ordinary-moves HashStart = same-moves (k .run) p
     ordinary-moves Hole = same-moves (k .run) p
 
-    page-moves : (running : Bool) (g : Register) → Effects (inPage g x k p running size c v)
+    page-moves : (sequence : Bool) (g : Register) → Effects (inPage g x k p sequence size c v)
     unfolding Effects
-    page-moves running g = by (closedPage x running)
+    page-moves sequence g = by (closedPage x sequence)
       where
         by : (u : Bool) → Effects (cond u (put.ignored k p) (ordinary g x k p size c v))
         by true = same-moves (k .run) p
         by false = ordinary-moves g
 
-    write-moves : (running : Bool) (g : Register) → Effects (writeEffect g x k p running size c v)
+    write-moves : (sequence : Bool) (g : Register) → Effects (writeEffect g x k p sequence size c v)
     unfolding writeEffect Effects
-    write-moves running HashStart = arbitrated-moves _ _
-    write-moves running HashEnd = arbitrated-moves _ _
-    write-moves running Access = page-moves running Access
-    write-moves running (IntEnable i) = page-moves running (IntEnable i)
-    write-moves running IntVector = page-moves running IntVector
-    write-moves running (IntStatus i) = page-moves running (IntStatus i)
-    write-moves running (Capability i) = page-moves running (Capability i)
-    write-moves running (Sts i) = page-moves running (Sts i)
-    write-moves running Fifo = page-moves running Fifo
-    write-moves running (Identity i) = page-moves running (Identity i)
-    write-moves running Hole = page-moves running Hole
+    write-moves sequence HashStart = arbitrated-moves _ _
+    write-moves sequence HashEnd = arbitrated-moves _ _
+    write-moves sequence Access = page-moves sequence Access
+    write-moves sequence (IntEnable i) = page-moves sequence (IntEnable i)
+    write-moves sequence IntVector = page-moves sequence IntVector
+    write-moves sequence (IntStatus i) = page-moves sequence (IntStatus i)
+    write-moves sequence (Capability i) = page-moves sequence (Capability i)
+    write-moves sequence (Sts i) = page-moves sequence (Sts i)
+    write-moves sequence Fifo = page-moves sequence Fifo
+    write-moves sequence (Identity i) = page-moves sequence (Identity i)
+    write-moves sequence Hole = page-moves sequence Hole
 
 -- ---- calls
 
@@ -188,7 +189,7 @@ bus-write-moves d w r o v = by (eqb (cycleRefusal d w r o) accepted) (hashFull (
   where
     by : (b f : Bool) → Devices d (cond b (cond f (result hashLength d w r) (writtenAt (registerFor o) (pageAt o) (stepAt (registerFor o) (pageAt o) d) d w r v)) (result (cycleRefusal d w r o) d w r) .device)
     by true true = same-moves (d .control .run) (d .phase)
-    by true false = write-moves (d .control) (d .phase) (pageAt o) _ _ v (d .launch .running) (registerFor o)
+    by true false = write-moves (d .control) (d .phase) (pageAt o) _ _ v (d .launch .sequence) (registerFor o)
     by false f = same-moves (d .control .run) (d .phase)
 
 reset-moves : (d : Device) (w r : List ℕ) → Devices d (afterReset d w r .device)

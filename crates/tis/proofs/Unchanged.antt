@@ -7,17 +7,18 @@ use lib.ListN.{length}
 use lib.Dec.{eqb}
 use denote.Ref.{now}
 use Rattle.refusal.specs.Refusal.{accepted, hashLength, fifoLength}
-use Rattle.arbiter.specs.Model.{Call, powerOn, reset, read, write, respond, pcrValue, interruptLine, mayReset, mayExtend, window}
+use Rattle.waiting.specs.Model.{Call, powerOn, reset, read, write, respond, pcrValue, interruptLine, mayReset, mayExtend, window}
 use Rattle.record.specs.Record.{freshDevice}
-use Rattle.record.specs.Shape.{lengthsAllowed}
+use Rattle.shape.specs.Shape.{lengthsAllowed}
 use Rattle.record.specs.declared.Device.{Device}
-use Rattle.command.specs.Fifos.{emptied, answered}
+use Rattle.fifos.specs.Fifos.{emptied, answered}
 use Rattle.launch.specs.Launch.{hashFull}
-use Rattle.tis.specs.declared.ReadOutcome.{ReadOutcome}
-use Rattle.tis.specs.Result.{Result, result}
-use Rattle.tis.specs.Power.{poweredOn, refusalOf, afterReset}
-use Rattle.tis.specs.Cycles.{cycleRefusal, pageAt, registerFor, readOutcome, readAt, busRead, stepAt, writtenAt, acceptedWrite, busWrite}
-use Rattle.tis.specs.Answer.{respondRefusal, completed, responded}
+use Rattle.outcome.specs.declared.ReadOutcome.{ReadOutcome}
+use Rattle.outcome.specs.Result.{Result, result}
+use Rattle.power.specs.Power.{poweredOn, afterReset}
+use Rattle.judge.specs.Refusals.{refusalOf}
+use Rattle.cycles.specs.Cycles.{cycleRefusal, pageAt, registerFor, readOutcome, readAt, busRead, stepAt, writtenAt, acceptedWrite, busWrite}
+use Rattle.answer.specs.Answer.{respondRefusal, completed, responded}
 use Rattle.tis.proofs.Calls.{State, state, Step, powersOn, resets, reads, writes, responds, asksPcr, asksLine, asksReset, asksExtend, looks}
 
 -- ---- the claim

@@ -4,7 +4,7 @@ use Prim.Native.Nat.{ℕ, zero, suc}
 use mathlib.Core.Bool.{Bool, true, false, cond}
 use mathlib.Core.List.{List, [], _∷_, _++_}
 use lib.Dec.{eqb}
-use Rattle.arbiter.specs.Model.{Call, powerOn, reset, read, write, respond, pcrValue, interruptLine, mayReset, mayExtend, window, Model, Holder, free, held, within, isHashStart, isHashEnd, Event, restart, hashStart, hashEnd, access, nothing, eventOf, step}
+use Rattle.waiting.specs.Model.{Call, powerOn, reset, read, write, respond, pcrValue, interruptLine, mayReset, mayExtend, window, Model, Holder, free, held, within, isHashStart, isHashEnd, Event, restart, hashStart, hashEnd, access, nothing, eventOf, step}
 
 -- "4024..4027 takes hash data while a sequence is open"
 abbrev pub isData : ℕ → Bool

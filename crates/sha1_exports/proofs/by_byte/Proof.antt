@@ -7,7 +7,7 @@ use native.Mathlib.Omega.{arith}
 use lib.ListN.{length, getD, take}
 use lib.Seq.{take-suc, take-all}
 use Rattle.sha1.specs.declared.Stream.{Stream}
-use Rattle.sha1.specs.Sha1.{sha1}
+use Rattle.sha1_block.specs.Sha1.{sha1}
 use Rattle.sha1.specs.Stream.{begun, joinOf, joinAll, finishOf}
 use Rattle.sha1.proofs.StreamLaws.{all-none, all-snoc, join-parts, digest}
 use borrow.Author.Needs.{needs}

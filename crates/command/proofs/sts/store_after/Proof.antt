@@ -1,5 +1,6 @@
 -- `command::sts::store_after` meets its contract. Assumes nothing.
-use Rattle.command.proofs.PhaseLaws.{store-more, store-done, more-grows}
+use Rattle.command.proofs.PhaseLaws.{store-more, store-done}
+use Rattle.status.proofs.StatusLaws.{more-grows}
 use borrow.Author.Needs.{needs}
 use Rattle.command.proofs.sts.store_after.Statement.{statement}
 use Rattle.command.proofs.sts.store_after.Tie as tie

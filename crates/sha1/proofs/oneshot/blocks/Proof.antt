@@ -4,7 +4,7 @@ use Prim.Native.Nat.{_-_, _/_, _≤_}
 use native.Mathlib.Numerals.{add-one}
 use native.Mathlib.Omega.{arith}
 use lib.ListN.{length}
-use Rattle.sha1.specs.Sha1.{hashed}
+use Rattle.sha1_block.specs.Sha1.{hashed}
 use borrow.Author.Needs.{needs}
 use Rattle.sha1.proofs.oneshot.blocks.Statement.{statement}
 use Rattle.sha1.proofs.oneshot.blocks.Tie as tie

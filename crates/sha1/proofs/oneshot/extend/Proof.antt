@@ -1,7 +1,7 @@
 -- The forty bytes are hashed. Assumes nothing.
 use mathlib.Core.Path.{sym, ap, _∙_}
 use native.Mathlib.Omega.{arith}
-use Rattle.sha1.specs.Sha1.{sha1}
+use Rattle.sha1_block.specs.Sha1.{sha1}
 use Rattle.sha1.proofs.OneshotLaws.{forty, forty-long}
 use borrow.Author.Needs.{needs}
 use Rattle.sha1.proofs.oneshot.extend.Statement.{statement}

@@ -5,9 +5,9 @@ use Prim.Native.Nat.{ℕ, _%_, _≤_, _<_}
 use lib.ListN.{length, set, replicate, length-set}
 use borrow.Author.Tests.{lt-ltb, le-ltb}
 use Rattle.sha1.specs.declared.Stream.{Stream}
-use Rattle.sha1.specs.Sha1.{compressOf, digestOf, blockFrom}
+use Rattle.sha1_block.specs.Sha1.{compressOf, digestOf, blockFrom}
 use Rattle.sha1.specs.Stream.{finishOf, withLength}
-use Rattle.sha1.proofs.BlockLaws.{whole}
+use Rattle.sha1_block.proofs.BlockLaws.{whole}
 use borrow.Author.Needs.{needs}
 use Rattle.sha1.proofs.padding.close.Statement.{statement}
 use Rattle.sha1.proofs.padding.close.Tie as tie

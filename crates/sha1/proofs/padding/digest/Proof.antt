@@ -4,7 +4,7 @@ use mathlib.Core.List.{List}
 use Prim.Native.Nat.{ℕ}
 use lib.ListN.{getD, replicate}
 use lib.Seq.{sets}
-use Rattle.sha1.specs.Sha1.{bytesOf, digestOf}
+use Rattle.sha1_block.specs.Sha1.{bytesOf, digestOf}
 use borrow.Author.Needs.{needs}
 use Rattle.sha1.proofs.padding.digest.Statement.{statement}
 use Rattle.sha1.proofs.padding.digest.Tie as tie

@@ -5,9 +5,9 @@ use Prim.Native.Nat.{ℕ, _%_}
 use lib.ListN.{length, set, replicate}
 use borrow.Author.Tests.{eq-eqb, ne-eqb}
 use Rattle.sha1.specs.declared.Stream.{Stream}
-use Rattle.sha1.specs.Sha1.{compressOf, blockFrom}
+use Rattle.sha1_block.specs.Sha1.{compressOf, blockFrom}
 use Rattle.sha1.specs.Stream.{joinOf}
-use Rattle.sha1.proofs.BlockLaws.{whole}
+use Rattle.sha1_block.proofs.BlockLaws.{whole}
 use borrow.Author.Needs.{needs}
 use Rattle.sha1.proofs.streaming.join_lent.Statement.{statement}
 use Rattle.sha1.proofs.streaming.join_lent.Tie as tie

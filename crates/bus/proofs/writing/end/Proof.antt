@@ -1,7 +1,0 @@
--- `bus::writing::end` meets its contract. Assumes nothing.
-use borrow.Author.Needs.{needs}
-use Rattle.bus.proofs.writing.end.Statement.{statement}
-use Rattle.bus.proofs.writing.end.Tie as tie
-
-pub end-spec : {M : Type 1} → statement M
-end-spec = tie.close (tie.spec (λ c κs. search needs) (λ c κs. search needs) (λ c. cc))

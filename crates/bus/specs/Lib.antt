@@ -1,3 +1,0 @@
-pub mod Change
-pub mod Reading
-pub mod Writing

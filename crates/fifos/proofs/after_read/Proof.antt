@@ -1,0 +1,22 @@
+-- `fifos::after_read` meets its contract. Assumes nothing.
+use Rattle.fifos.proofs.FifoLaws.{read-on, read-out, after-case}
+use borrow.Author.Needs.{needs}
+use Rattle.fifos.proofs.after_read.Statement.{statement}
+use Rattle.fifos.proofs.after_read.Tie as tie
+
+pub after-read-spec : {M : Type 1} → statement M
+after-read-spec =
+    tie.close
+    (tie.spec
+    (λ c. search needs)
+    (λ c. search needs)
+    (λ c. search needs)
+    (λ c. search needs)
+    (λ c. search needs)
+    (λ c. search (needs, read-on, read-out, after-case))
+    (λ c. search needs)
+    (λ c. search (needs, read-on, read-out, after-case))
+    (λ c. search (needs, read-on, read-out, after-case))
+    (λ c. search (needs, read-on, read-out, after-case))
+    (λ c. search (needs, read-on, read-out, after-case))
+    (λ c. search (needs, read-on, read-out, after-case)))

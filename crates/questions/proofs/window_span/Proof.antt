@@ -1,0 +1,14 @@
+-- `questions::window_span` meets its contract. Assumes nothing.
+use Rattle.questions.proofs.QuestionLaws.{span-accepted, span-refused}
+use borrow.Author.Needs.{needs}
+use Rattle.questions.proofs.window_span.Statement.{statement}
+use Rattle.questions.proofs.window_span.Tie as tie
+
+pub window-span-spec : {M : Type 1} → statement M
+window-span-spec =
+    tie.close
+    (tie.spec
+    (λ c κs. search needs)
+    (λ c. search (needs, span-accepted))
+    (λ c κs. search needs)
+    (λ c. search (needs, span-refused)))

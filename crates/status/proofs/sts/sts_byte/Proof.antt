@@ -1,0 +1,17 @@
+-- `status::sts::sts_byte` meets its contract. Assumes nothing.
+use Rattle.status.proofs.StatusLaws.{sts-first, sts-second, sts-third}
+use borrow.Author.Needs.{needs}
+use Rattle.status.proofs.sts.sts_byte.Statement.{statement}
+use Rattle.status.proofs.sts.sts_byte.Tie as tie
+
+pub sts-byte-spec : {M : Type 1} → statement M
+sts-byte-spec =
+    tie.close
+    (tie.spec
+    (λ c κs. search needs)
+    (λ c. search (needs, sts-first))
+    (λ c κs. search needs)
+    (λ c. search needs)
+    (λ c. search (needs, sts-second))
+    (λ c. search needs)
+    (λ c. search (needs, sts-third)))

@@ -1,0 +1,5 @@
+pub mod ModelLaws
+pub mod Invariant
+pub mod Fairness
+pub mod Arbitration
+pub mod Example

@@ -1,0 +1,4 @@
+pub mod Bits
+pub mod Model
+pub mod Waits
+pub mod Claims
