@@ -1,8 +1,10 @@
 pub mod Calls
+pub mod Called
 pub mod Decoding
 pub mod KeepsModel
 pub mod Demand3
 pub mod Unchanged
+pub mod PcrEvents
 pub mod Launches
 pub mod LaunchValue
 pub mod StaleAnswers
