@@ -1,0 +1,107 @@
+// The record and the lengths of the two FIFOs, as the next call finds them.
+ghost use Prim.Native.Nat.{_≤_};
+ghost use lib.ListN.{length};
+use record::Device;
+use replay_calls::change;
+use replay_calls::question;
+use replay_form::IMAGE;
+use replay_form::fields::put;
+use replay_form::fields::take;
+use replay_form::frame::length_at;
+use replay_form::tape::least;
+use replay_image::device_at;
+
+pub struct Bench {
+    pub device: Device,
+    pub write: usize,
+    pub read: usize,
+}
+
+// What a call leaves, and how many bytes its outcome has.
+pub struct Played {
+    pub bench: Bench,
+    pub put: usize,
+}
+
+// Before the first call: as a power-on leaves it, with FIFOs of no byte.
+pub fn start() -> Bench {
+    Bench {
+        device: record::fresh(false, [0u8; 5]),
+        write: 0,
+        read: 0,
+    }
+}
+
+// Any record, in shape or not, and any bytes in the FIFOs.
+fn load(args: &[u8], w: &mut [u8], r: &mut [u8]) -> Bench {
+    let n = least(length_at(args, IMAGE), w.len());
+    let m = least(length_at(args, IMAGE + 2), r.len());
+    take(args, IMAGE + 4, &mut w[0..n]);
+    take(args, IMAGE + 4 + n, &mut r[0..m]);
+    Bench {
+        device: device_at(args),
+        write: n,
+        read: m,
+    }
+}
+
+fn asks(kind: u8) -> bool {
+    match kind {
+        b'V' | b'L' | b'C' | b'E' | b'M' | b'D' => true,
+        _ => false,
+    }
+}
+
+// The outcome of a read has its byte too.
+fn put_outcome(out: &mut [u8], kind: u8, refusal: u8, byte: u8) -> usize {
+    put(out, 0, refusal);
+    if kind == b'R' {
+        put(out, 1, byte);
+        return 2;
+    }
+    1
+}
+
+fn changed(kind: u8, b: Bench, args: &[u8], out: &mut [u8], w: &mut [u8], r: &mut [u8]) -> Played {
+    let n = least(b.write, w.len());
+    let m = least(b.read, r.len());
+    let d = b.device;
+    let o = change(kind, d, &mut w[0..n], &mut r[0..m], args);
+    let device = o.device;
+    Played {
+        bench: Bench {
+            device,
+            write: n,
+            read: m,
+        },
+        put: put_outcome(out, kind, o.refusal, o.byte),
+    }
+}
+
+fn asked<'a>(kind: u8, b: Bench, args: &[u8], out: &mut [u8], w: &'a [u8], r: &'a [u8]) -> usize {
+    let n = least(b.write, w.len());
+    let m = least(b.read, r.len());
+    let d = b.device;
+    question(kind, d, &w[0..n], &r[0..m], args, out)
+}
+
+// One call of a known opcode, whole.
+pub fn play(b: Bench, call: &[u8], out: &mut [u8], w: &mut [u8], r: &mut [u8]) -> Played
+    requires { ⌜ 1 ≤ length (now call) ⌝ }
+{
+    let kind = call[0];
+    let args = &call[1..];
+    if asks(kind) {
+        return Played {
+            bench: b,
+            put: asked(kind, b, args, out, w, r),
+        };
+    }
+    if kind == b'S' {
+        return Played {
+            bench: load(args, w, r),
+            put: 0,
+        };
+    }
+    changed(kind, b, args, out, w, r)
+}
