@@ -2,8 +2,8 @@
 ghost use mathlib.Core.Path.{_≡_};
 ghost use Prim.Native.Nat.{_≤_};
 ghost use lib.ListN.{length};
-use bench::Bench;
-use bench::play;
+use replay_bench::Bench;
+use replay_bench::play;
 use replay_form::LONGEST;
 use replay_form::fault;
 use replay_form::frame::Fault;
@@ -13,8 +13,6 @@ use replay_form::tape::ROOM;
 use replay_form::tape::Tape;
 use replay_form::tape::moved;
 use replay_form::tape::ready;
-
-mod bench;
 
 struct State {
     tape: Tape,
@@ -101,7 +99,7 @@ fn main() {
     let mut r = [0u8; LONGEST];
     let mut s = State {
         tape: tape::start(),
-        bench: bench::start(),
+        bench: replay_bench::start(),
         going: true,
         fault: Fault::Nothing,
     };

@@ -1,15 +1,17 @@
-// The record and the lengths of the two FIFOs, as the next call finds them.
-ghost use Prim.Native.Nat.{_≤_};
-ghost use lib.ListN.{length};
+// The record and the lengths of the two FIFOs, as the next call finds them, and what loads and changes them.
+use calls::change;
 use record::Device;
-use replay_calls::change;
-use replay_calls::question;
 use replay_form::IMAGE;
 use replay_form::fields::put;
 use replay_form::fields::take;
 use replay_form::frame::length_at;
 use replay_form::tape::least;
 use replay_image::device_at;
+
+mod calls;
+mod turn;
+
+pub use turn::play;
 
 pub struct Bench {
     pub device: Device,
@@ -45,13 +47,6 @@ fn load(args: &[u8], w: &mut [u8], r: &mut [u8]) -> Bench {
     }
 }
 
-fn asks(kind: u8) -> bool {
-    match kind {
-        b'V' | b'L' | b'C' | b'E' | b'M' | b'D' => true,
-        _ => false,
-    }
-}
-
 // The outcome of a read has its byte too.
 fn put_outcome(out: &mut [u8], kind: u8, refusal: u8, byte: u8) -> usize {
     put(out, 0, refusal);
@@ -62,6 +57,7 @@ fn put_outcome(out: &mut [u8], kind: u8, refusal: u8, byte: u8) -> usize {
     1
 }
 
+// A call that may change the record.
 fn changed(kind: u8, b: Bench, args: &[u8], out: &mut [u8], w: &mut [u8], r: &mut [u8]) -> Played {
     let n = least(b.write, w.len());
     let m = least(b.read, r.len());
@@ -76,32 +72,4 @@ fn changed(kind: u8, b: Bench, args: &[u8], out: &mut [u8], w: &mut [u8], r: &mu
         },
         put: put_outcome(out, kind, o.refusal, o.byte),
     }
-}
-
-fn asked<'a>(kind: u8, b: Bench, args: &[u8], out: &mut [u8], w: &'a [u8], r: &'a [u8]) -> usize {
-    let n = least(b.write, w.len());
-    let m = least(b.read, r.len());
-    let d = b.device;
-    question(kind, d, &w[0..n], &r[0..m], args, out)
-}
-
-// One call of a known opcode, whole.
-pub fn play(b: Bench, call: &[u8], out: &mut [u8], w: &mut [u8], r: &mut [u8]) -> Played
-    requires { ⌜ 1 ≤ length (now call) ⌝ }
-{
-    let kind = call[0];
-    let args = &call[1..];
-    if asks(kind) {
-        return Played {
-            bench: b,
-            put: asked(kind, b, args, out, w, r),
-        };
-    }
-    if kind == b'S' {
-        return Played {
-            bench: load(args, w, r),
-            put: 0,
-        };
-    }
-    changed(kind, b, args, out, w, r)
 }

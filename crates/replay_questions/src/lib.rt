@@ -1,4 +1,4 @@
-// One function for each opcode: it takes the arguments, makes the call and gives or puts the outcome.
+// The calls that leave everything as it is, and the dump: one function for each opcode, which puts the outcome.
 ghost use Prim.Native.Nat.{_≤_};
 use arbiter::Locality;
 use pcr::PcrIndex;
@@ -10,60 +10,8 @@ use replay_form::fields::put;
 use replay_form::fields::put_all;
 use replay_form::fields::put_flag;
 use replay_form::fields::put_u16;
-use replay_form::fields::take;
-use replay_form::fields::u32_at;
-use replay_form::fields::u64_at;
+use replay_form::tape::least;
 use replay_image::put_device;
-use tis::ReadOutcome;
-
-// With no byte, where the call is no read.
-fn outcome(refusal: u8, device: Device) -> ReadOutcome {
-    ReadOutcome {
-        refusal,
-        byte: 0,
-        device,
-    }
-}
-
-fn power_on(w: &mut [u8], r: &mut [u8], args: &[u8]) -> ReadOutcome {
-    let mut identity = [0u8; 5];
-    take(args, 1, &mut identity);
-    let o = tis::power_on(byte_at(args, 0) == 1, identity, w, r);
-    let d = o.device;
-    outcome(o.refusal, d)
-}
-
-fn reset(device: Device, w: &mut [u8], r: &mut [u8]) -> ReadOutcome {
-    let o = tis::reset(device, w, r);
-    let d = o.device;
-    outcome(o.refusal, d)
-}
-
-fn write(device: Device, w: &mut [u8], r: &mut [u8], args: &[u8]) -> ReadOutcome {
-    let o = tis::write(device, w, r, u64_at(args, 0), byte_at(args, 8));
-    let d = o.device;
-    outcome(o.refusal, d)
-}
-
-fn respond(device: Device, w: &mut [u8], r: &mut [u8], args: &[u8]) -> ReadOutcome {
-    if args.len() < 6 {
-        return outcome(refusal::ANSWER_LENGTH, device);
-    }
-    let o = tis::respond(device, w, r, u32_at(args, 0) as u32, &args[6..]);
-    let d = o.device;
-    outcome(o.refusal, d)
-}
-
-// A call that may change the record.
-pub fn change(kind: u8, device: Device, w: &mut [u8], r: &mut [u8], args: &[u8]) -> ReadOutcome {
-    match kind {
-        b'P' => power_on(w, r, args),
-        b'Z' => reset(device, w, r),
-        b'R' => tis::read(device, w, r, u64_at(args, 0)),
-        b'W' => write(device, w, r, args),
-        _ => respond(device, w, r, args),
-    }
-}
 
 fn pcr_value(device: Device, args: &[u8], out: &mut [u8]) -> usize {
     let o = tis::pcr_value(device, PcrIndex(byte_at(args, 0)));
@@ -139,8 +87,7 @@ fn dump(device: Device, w: &[u8], r: &[u8], out: &mut [u8]) -> usize {
     IMAGE + put_fifos(&mut out[IMAGE..], w, r)
 }
 
-// A call that leaves everything as it is, and how many bytes its outcome has.
-pub fn question<'a>(
+fn question<'a>(
     kind: u8,
     device: Device,
     w: &'a [u8],
@@ -156,4 +103,20 @@ pub fn question<'a>(
         b'M' => window(device, w, r, out),
         _ => dump(device, w, r, out),
     }
+}
+
+// A call on FIFOs of n and m bytes, the first of what is lent; gives how many bytes its outcome has.
+pub fn asked<'a>(
+    kind: u8,
+    device: Device,
+    n: usize,
+    m: usize,
+    w: &'a [u8],
+    r: &'a [u8],
+    args: &[u8],
+    out: &mut [u8],
+) -> usize {
+    let write = least(n, w.len());
+    let read = least(m, r.len());
+    question(kind, device, &w[0..write], &r[0..read], args, out)
 }
