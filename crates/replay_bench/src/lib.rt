@@ -1,14 +1,13 @@
-// The record and the lengths of the two FIFOs, as the next call finds them, and what loads and changes them.
-use calls::change;
+// The record and the lengths of the two FIFOs, as the next call finds them, and one call on them.
 use record::Device;
 use replay_form::IMAGE;
-use replay_form::fields::put;
 use replay_form::fields::take;
 use replay_form::frame::length_at;
 use replay_form::tape::least;
 use replay_image::device_at;
 
-mod calls;
+mod change;
+mod question;
 mod turn;
 
 pub use turn::play;
@@ -44,32 +43,5 @@ fn load(args: &[u8], w: &mut [u8], r: &mut [u8]) -> Bench {
         device: device_at(args),
         write: n,
         read: m,
-    }
-}
-
-// The outcome of a read has its byte too.
-fn put_outcome(out: &mut [u8], kind: u8, refusal: u8, byte: u8) -> usize {
-    put(out, 0, refusal);
-    if kind == b'R' {
-        put(out, 1, byte);
-        return 2;
-    }
-    1
-}
-
-// A call that may change the record.
-fn changed(kind: u8, b: Bench, args: &[u8], out: &mut [u8], w: &mut [u8], r: &mut [u8]) -> Played {
-    let n = least(b.write, w.len());
-    let m = least(b.read, r.len());
-    let d = b.device;
-    let o = change(kind, d, &mut w[0..n], &mut r[0..m], args);
-    let device = o.device;
-    Played {
-        bench: Bench {
-            device,
-            write: n,
-            read: m,
-        },
-        put: put_outcome(out, kind, o.refusal, o.byte),
     }
 }

@@ -3,16 +3,11 @@ ghost use Prim.Native.Nat.{_≤_};
 ghost use lib.ListN.{length};
 use crate::Bench;
 use crate::Played;
-use crate::changed;
+use crate::change::changed;
+use crate::change::put_outcome;
 use crate::load;
-use replay_questions::asked;
-
-fn asks(kind: u8) -> bool {
-    match kind {
-        b'V' | b'L' | b'C' | b'E' | b'M' | b'D' => true,
-        _ => false,
-    }
-}
+use crate::question::asked;
+use crate::question::asks;
 
 // One call of a known opcode, whole.
 pub fn play(b: Bench, call: &[u8], out: &mut [u8], w: &mut [u8], r: &mut [u8]) -> Played
@@ -21,10 +16,9 @@ pub fn play(b: Bench, call: &[u8], out: &mut [u8], w: &mut [u8], r: &mut [u8]) -
     let kind = call[0];
     let args = &call[1..];
     if asks(kind) {
-        let d = b.device;
         return Played {
             bench: b,
-            put: asked(kind, d, b.write, b.read, w, r, args, out),
+            put: asked(kind, b, args, out, w, r),
         };
     }
     if kind == b'S' {
@@ -33,5 +27,14 @@ pub fn play(b: Bench, call: &[u8], out: &mut [u8], w: &mut [u8], r: &mut [u8]) -
             put: 0,
         };
     }
-    changed(kind, b, args, out, w, r)
+    let o = changed(kind, b, args, w, r);
+    let device = o.device;
+    Played {
+        bench: Bench {
+            device,
+            write: b.write,
+            read: b.read,
+        },
+        put: put_outcome(out, kind, o.refusal, o.byte),
+    }
 }

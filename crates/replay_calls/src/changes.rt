@@ -1,4 +1,4 @@
-// The calls that may change the record: one function for each opcode, which takes the arguments and makes the call.
+// The calls that may change the record; a read is `tis::read` as it stands.
 use record::Device;
 use replay_form::fields::byte_at;
 use replay_form::fields::take;
@@ -36,6 +36,7 @@ fn write(device: Device, w: &mut [u8], r: &mut [u8], args: &[u8]) -> ReadOutcome
 }
 
 fn respond(device: Device, w: &mut [u8], r: &mut [u8], args: &[u8]) -> ReadOutcome {
+    // Run number and length are there, or the call would have been cut short.
     if args.len() < 6 {
         return outcome(refusal::ANSWER_LENGTH, device);
     }
@@ -44,7 +45,6 @@ fn respond(device: Device, w: &mut [u8], r: &mut [u8], args: &[u8]) -> ReadOutco
     outcome(o.refusal, d)
 }
 
-// A call that may change the record.
 pub fn change(kind: u8, device: Device, w: &mut [u8], r: &mut [u8], args: &[u8]) -> ReadOutcome {
     match kind {
         b'P' => power_on(w, r, args),
