@@ -33,6 +33,35 @@ impl Before {
     }
 }
 
+/// What must not be missing besides the refusals.
+#[derive(Clone, Copy)]
+enum Event {
+    WaitBegun,
+    Served,
+    Freed,
+    Seizure,
+    Withdrawal,
+    Launch,
+    LaunchServed,
+    LaunchOver,
+    Run,
+    RunWrapped,
+    Answer,
+    StaleAnswer,
+    BadSize,
+    Retry,
+    AbortReception,
+    AbortExecution,
+    AbortCompletion,
+    Line,
+    AnswerOfC,
+    AnswerAboveC,
+    CommandOfC,
+    CommandAboveC,
+    LastHashByte,
+}
+
+/// In the order of `Event`.
 const EVENTS: [&str; 23] = [
     "waits begun",
     "handovers that serve a waiting locality",
@@ -102,13 +131,13 @@ impl Coverage {
             }
             Call::Respond { answer, .. } => {
                 let c = after.read.len();
-                self.event(18, refusal == 0 && answer.len() == c);
-                self.event(19, refusal == 4 && answer.len() == c + 1);
+                self.event(Event::AnswerOfC, refusal == 0 && answer.len() == c);
+                self.event(Event::AnswerAboveC, refusal == 4 && answer.len() == c + 1);
                 let executing = matches!(before.phase, Phase::Execution(_));
-                self.event(10, refusal == 0);
-                self.event(11, refusal == 3 && executing);
+                self.event(Event::Answer, refusal == 0);
+                self.event(Event::StaleAnswer, refusal == 3 && executing);
             }
-            Call::InterruptLine => self.event(17, outcome[0] == 1),
+            Call::InterruptLine => self.event(Event::Line, outcome[0] == 1),
             Call::Write { offset, byte } if refusal == 0 => {
                 self.count_holding(before, device, *offset, *byte);
                 self.count_command(before, after, *offset, *byte);
@@ -117,8 +146,8 @@ impl Coverage {
         }
     }
 
-    fn event(&mut self, event: usize, happened: bool) {
-        self.events[event] += u64::from(happened);
+    fn event(&mut self, event: Event, happened: bool) {
+        self.events[event as usize] += u64::from(happened);
     }
 
     fn count_holding(&mut self, before: &Before, after: &Device, offset: u64, byte: u8) {
@@ -129,28 +158,34 @@ impl Coverage {
             && byte & 0x3a == 0x20
             && !(before.open && x == 4);
         let served = number(&after.waiting) < number(&before.waiting);
-        self.event(0, number(&after.waiting) > number(&before.waiting));
-        self.event(1, (closed || released) && served);
-        self.event(2, (closed || released) && after.active.is_none());
         self.event(
-            3,
+            Event::WaitBegun,
+            number(&after.waiting) > number(&before.waiting),
+        );
+        self.event(Event::Served, (closed || released) && served);
+        self.event(Event::Freed, (closed || released) && after.active.is_none());
+        self.event(
+            Event::Seizure,
             !closed && !released && before.active.is_some() && after.active != before.active,
         );
-        self.event(4, served && after.active == before.active);
-        self.event(5, closed);
-        self.event(6, closed && served);
-        self.event(7, before.open && (0x4028..=0x402b).contains(&offset));
+        self.event(Event::Withdrawal, served && after.active == before.active);
+        self.event(Event::Launch, closed);
+        self.event(Event::LaunchServed, closed && served);
+        self.event(
+            Event::LaunchOver,
+            before.open && (0x4028..=0x402b).contains(&offset),
+        );
     }
 
     fn count_command(&mut self, before: &Before, bench: &Bench, offset: u64, byte: u8) {
         let after = &bench.device;
         let c = bench.write.len();
-        self.event(8, after.run != before.run);
-        self.event(9, after.run == 0 && before.run == u32::MAX);
+        self.event(Event::Run, after.run != before.run);
+        self.event(Event::RunWrapped, after.run == 0 && before.run == u32::MAX);
         let filled = before.phase == Phase::Reception(c as u16);
-        self.event(20, filled && after.run != before.run);
+        self.event(Event::CommandOfC, filled && after.run != before.run);
         self.event(
-            22,
+            Event::LastHashByte,
             before.open
                 && after.hash.stream.count == MOST_HASH_BYTES
                 && before.hashed < MOST_HASH_BYTES,
@@ -162,14 +197,17 @@ impl Coverage {
         match before.phase {
             Phase::Reception(_) => {
                 let answered = matches!(after.phase, Phase::Completion(..));
-                self.event(12, answered);
-                self.event(21, answered && before.declared == c as u64 + 1);
-                self.event(14, idle);
+                self.event(Event::BadSize, answered);
+                self.event(
+                    Event::CommandAboveC,
+                    answered && before.declared == c as u64 + 1,
+                );
+                self.event(Event::AbortReception, idle);
             }
-            Phase::Execution(_) => self.event(15, idle),
+            Phase::Execution(_) => self.event(Event::AbortExecution, idle),
             Phase::Completion(_, read) => {
-                self.event(13, read > 0 && byte & 0x62 == 0x02);
-                self.event(16, idle);
+                self.event(Event::Retry, read > 0 && byte & 0x62 == 0x02);
+                self.event(Event::AbortCompletion, idle);
             }
             _ => {}
         }

@@ -61,17 +61,21 @@ impl Follower {
         self.check_note(call, refusal)
     }
 
-    /// A record made to meet a clause of the shape rule is accepted, one made to break it refused with 6.
+    /// A record made to meet a clause of the shape rule is accepted by the next call, one made to break it refused with 6.
     fn check_note(&mut self, call: &Call, refusal: u8) -> Result<(), String> {
-        if *call != Call::Window || !FIFO_LENGTHS.contains(&self.bench.write.len()) {
+        if matches!(call, Call::Load { .. }) {
             return Ok(());
         }
-        match self.note.take() {
-            Some((clause, met)) if met != (refusal == 0) => Err(format!(
-                "shape rule, '{clause}': made to be {}, refusal {refusal}",
-                if met { "met" } else { "broken" }
-            )),
-            _ => Ok(()),
+        let note = self.note.take();
+        let (Some((clause, met)), Call::Window) = (note, call) else {
+            return Ok(());
+        };
+        let due = if met { 0 } else { 6 };
+        if refusal == due || !FIFO_LENGTHS.contains(&self.bench.write.len()) {
+            return Ok(());
         }
+        Err(format!(
+            "shape rule, '{clause}': refusal {refusal}, not {due}"
+        ))
     }
 }

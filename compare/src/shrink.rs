@@ -140,3 +140,33 @@ fn loads(bench: &Bench) -> Vec<Call> {
     };
     edits.iter().map(|edit| edited(*edit)).collect()
 }
+
+#[cfg(test)]
+mod tests {
+    use super::*;
+    use crate::random::Random;
+    use crate::scenes;
+
+    fn request(x: u64) -> Call {
+        Call::Write {
+            offset: x << 12,
+            byte: 0x02,
+        }
+    }
+
+    /// Fails where locality 3 asks some time after locality 1 did.
+    fn fails(calls: &[Call]) -> Option<usize> {
+        let first = calls.iter().position(|call| *call == request(1))?;
+        let second = calls[first..].iter().position(|call| *call == request(3))?;
+        Some(first + second)
+    }
+
+    #[test]
+    fn a_long_list_shrinks_to_the_two_calls_that_matter() {
+        let random = Random::seeded(1);
+        let mut calls = scenes::list(&random, 1);
+        calls.insert(40, request(1));
+        calls.insert(300, request(3));
+        assert_eq!(shrink(&calls, fails), [request(1), request(3)]);
+    }
+}
