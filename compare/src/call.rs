@@ -216,7 +216,10 @@ fn show_load(
         )?;
     }
     let parts = [
-        (d.active != fresh.active, format!("active {:?}", d.active)),
+        (
+            d.active.is_some(),
+            format!("active {}", d.active.unwrap_or(0)),
+        ),
         (
             d.waiting != fresh.waiting,
             format!("waiting {:?}", d.waiting.map(u8::from)),

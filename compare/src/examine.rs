@@ -1,6 +1,6 @@
 //! One list looked at closely: the first call after which the front, the yardstick and the waiting book do not agree.
 
-use crate::bench::{IMAGE, PARTS};
+use crate::bench::{BANK, IMAGE, PARTS};
 use crate::call::{hex, Call};
 use crate::follow::Follower;
 use crate::front;
@@ -101,37 +101,58 @@ fn show(call: &Call, outcome: &[u8]) -> String {
     }
 }
 
+/// A number in decimal, anything else as bytes.
+fn show_part(name: &str, bytes: &[u8]) -> String {
+    let number = name.ends_with("count") || name.ends_with("number") || name == "hash bytes";
+    if number {
+        let value = bytes
+            .iter()
+            .rev()
+            .fold(0, |sum, byte| sum << 8 | u64::from(*byte));
+        return value.to_string();
+    }
+    hex(bytes)
+}
+
+/// One line where a part differs, from the first byte that does where it is long.
+fn difference(name: &str, front: &[u8], yardstick: &[u8]) -> Option<String> {
+    let place = front.iter().zip(yardstick).position(|(a, b)| a != b);
+    let place = place.or((front.len() != yardstick.len()).then_some(0))?;
+    let (from, at) = match front.len() {
+        0..=24 => (0, String::new()),
+        _ => (place, format!(" from byte {place}")),
+    };
+    let (front, yardstick) = (&front[from..], &yardstick[from..]);
+    Some(format!(
+        "{name}{at}: front {}, yardstick {}",
+        show_part(name, front),
+        show_part(name, yardstick)
+    ))
+}
+
+/// The parts of a dump by name.
+fn parts(dump: &[u8]) -> Vec<(String, &[u8])> {
+    let (bank, rest) = dump[BANK..].split_at(IMAGE - BANK);
+    let write = usize::from(u16::from_le_bytes([rest[0], rest[1]]));
+    let mut parts: Vec<(String, &[u8])> = PARTS
+        .iter()
+        .map(|(name, from, to)| (name.to_string(), &dump[*from..*to]))
+        .collect();
+    let pcrs = bank.chunks(20).enumerate();
+    parts.extend(pcrs.map(|(n, value)| (format!("PCR {n}"), value)));
+    parts.push(("FIFO lengths".to_string(), &rest[..4]));
+    parts.push(("WriteFIFO".to_string(), &rest[4..4 + write]));
+    parts.push(("ReadFIFO".to_string(), &rest[4 + write..]));
+    parts
+}
+
 /// The parts of two dumps that differ.
 fn differences(front: &[u8], yardstick: &[u8]) -> Vec<String> {
-    let mut lines = Vec::new();
-    for (name, from, to) in PARTS {
-        let (a, b) = (&front[from..to], &yardstick[from..to]);
-        if a != b {
-            let place = a.iter().zip(b).position(|(a, b)| a != b).unwrap_or(0);
-            let (a, b) = if to - from > 24 {
-                (&a[place..], &b[place..])
-            } else {
-                (a, b)
-            };
-            lines.push(format!(
-                "{name} from byte {place}: front {}, yardstick {}",
-                hex(a),
-                hex(b)
-            ));
-        }
-    }
-    let (a, b) = (&front[IMAGE..], &yardstick[IMAGE..]);
-    if let Some(place) = a.iter().zip(b).position(|(a, b)| a != b) {
-        let write = usize::from(u16::from_le_bytes([b[0], b[1]]));
-        let (name, byte) = match place.checked_sub(4) {
-            None => ("FIFO lengths", place),
-            Some(byte) if byte < write => ("WriteFIFO", byte),
-            Some(byte) => ("ReadFIFO", byte - write),
-        };
-        let (a, b) = (hex(&a[place..]), hex(&b[place..]));
-        lines.push(format!("{name} from byte {byte}: front {a}, yardstick {b}"));
-    }
-    lines
+    parts(front)
+        .iter()
+        .zip(parts(yardstick))
+        .filter_map(|((name, a), (_, b))| difference(name, a, b))
+        .collect()
 }
 
 /// The active locality and the waiting flags of an image.
