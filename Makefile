@@ -1,15 +1,18 @@
 # The commands of this repository.
-.PHONY: test run bench
+.PHONY: test run bench soak
 
 CARGO_TARGET_DIR := $(CURDIR)/target/cargo
 export CARGO_TARGET_DIR
 HOST := --manifest-path host/Cargo.toml --offline
 
-# The gate: format, the yardstick's own tests, SHA-1 against sha1sum, and then every proof, must-fail edit and program.
+# The gate: format, the tests of the yardstick and of the comparison, SHA-1 against sha1sum, the front against the yardstick, and then every
+# proof, must-fail edit and program.
 test:
 	rt fmt --check
 	cargo test --quiet --manifest-path yardstick/Cargo.toml --offline
+	cargo test --quiet --manifest-path compare/Cargo.toml --offline
 	tools/compare-sha1
+	tools/compare-calls
 	rt ci
 
 # Plays the bench sheet and the SHA-1 vectors, each line with what is expected and what came.
@@ -24,3 +27,9 @@ run:
 bench:
 	rt staticlib sha1_exports
 	cargo run --quiet --release $(HOST) --features rattle --bin bench_sha1
+
+# N more calls through the front and the yardstick, from a seed of the day; `make soak N=1000000 SEED=7` picks both.
+N := 50000000
+SEED := $(shell date +%s)
+soak:
+	CALLS=$(N) SEED=$(SEED) tools/compare-calls

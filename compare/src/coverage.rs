@@ -1,0 +1,261 @@
+//! What the lists reached: calls by kind and refusal, and the events that must not be missing.
+
+use crate::bench::Bench;
+use crate::call::{Call, KINDS, REFUSALS};
+use crate::records::CLAUSES;
+use yardstick::device::MOST_HASH_BYTES;
+use yardstick::{Device, Phase};
+
+/// What a call is judged by besides the record that it leaves.
+pub struct Before {
+    active: Option<u8>,
+    waiting: [bool; 5],
+    phase: Phase,
+    open: bool,
+    run: u32,
+    hashed: u32,
+    declared: u64,
+}
+
+impl Before {
+    pub fn of(bench: &Bench) -> Before {
+        let device = &bench.device;
+        let size = bench.write.get(2..6).unwrap_or(&[]);
+        Before {
+            active: device.active,
+            waiting: device.waiting,
+            phase: device.phase,
+            open: device.hash.open,
+            run: device.run,
+            hashed: device.hash.stream.count,
+            declared: size.iter().fold(0, |sum, byte| sum << 8 | u64::from(*byte)),
+        }
+    }
+}
+
+/// What must not be missing besides the refusals.
+#[derive(Clone, Copy)]
+enum Event {
+    WaitBegun,
+    Served,
+    Freed,
+    Seizure,
+    Withdrawal,
+    Launch,
+    LaunchServed,
+    LaunchOver,
+    Run,
+    RunWrapped,
+    Answer,
+    StaleAnswer,
+    BadSize,
+    Retry,
+    AbortReception,
+    AbortExecution,
+    AbortCompletion,
+    Line,
+    AnswerOfC,
+    AnswerAboveC,
+    CommandOfC,
+    CommandAboveC,
+    LastHashByte,
+}
+
+/// In the order of `Event`.
+const EVENTS: [&str; 23] = [
+    "waits begun",
+    "handovers that serve a waiting locality",
+    "handovers that free the device",
+    "seizures",
+    "withdrawals",
+    "launches completed",
+    "launches completed with a locality waiting",
+    "launches started over",
+    "runs started",
+    "runs started at the end of the run numbers",
+    "answers accepted",
+    "answers to another run refused in Execution",
+    "commands of a bad size answered",
+    "retries with bytes read",
+    "aborts in Reception",
+    "aborts in Execution",
+    "aborts in Completion",
+    "line asserted",
+    "answers of C bytes accepted",
+    "answers of C + 1 bytes refused",
+    "commands of C bytes run",
+    "commands of C + 1 bytes answered",
+    "hash byte number 1,048,576 taken",
+];
+
+#[derive(Default)]
+pub struct Coverage {
+    calls: u64,
+    refusals: [[u64; 8]; KINDS.len()],
+    events: [u64; EVENTS.len()],
+    clauses: [[u64; 2]; CLAUSES.len()],
+    most_waiting: usize,
+    /// Loads with FIFOs of unequal and of equal length.
+    lengths: [u64; 2],
+}
+
+fn number(waiting: &[bool; 5]) -> usize {
+    waiting.iter().filter(|waits| **waits).count()
+}
+
+impl Coverage {
+    /// Calls of the front; a load is none.
+    pub fn calls(&self) -> u64 {
+        self.calls
+    }
+
+    pub fn count(
+        &mut self,
+        before: &Before,
+        call: &Call,
+        refusal: u8,
+        after: &Bench,
+        outcome: &[u8],
+    ) {
+        self.refusals[call.kind()][usize::from(refusal)] += 1;
+        self.calls += u64::from(!matches!(call, Call::Load { .. }));
+        let device = &after.device;
+        self.most_waiting = self.most_waiting.max(number(&device.waiting));
+        match call {
+            Call::Load { note, bench } => {
+                if let Some((clause, met)) = note {
+                    self.clauses[*clause as usize][usize::from(*met)] += 1;
+                }
+                let (write, read) = (bench.write.len(), bench.read.len());
+                self.lengths[usize::from(write == read)] += 1;
+            }
+            Call::Respond { answer, .. } => {
+                let c = after.read.len();
+                self.event(Event::AnswerOfC, refusal == 0 && answer.len() == c);
+                self.event(Event::AnswerAboveC, refusal == 4 && answer.len() == c + 1);
+                let executing = matches!(before.phase, Phase::Execution(_));
+                self.event(Event::Answer, refusal == 0);
+                self.event(Event::StaleAnswer, refusal == 3 && executing);
+            }
+            Call::InterruptLine => self.event(Event::Line, outcome[0] == 1),
+            Call::Write { offset, byte } if refusal == 0 => {
+                self.count_holding(before, device, *offset, *byte);
+                self.count_command(before, after, *offset, *byte);
+            }
+            _ => {}
+        }
+    }
+
+    fn event(&mut self, event: Event, happened: bool) {
+        self.events[event as usize] += u64::from(happened);
+    }
+
+    fn count_holding(&mut self, before: &Before, after: &Device, offset: u64, byte: u8) {
+        let x = (offset >> 12) as u8;
+        let closed = before.open && !after.hash.open;
+        let released = offset == u64::from(x) << 12
+            && before.active == Some(x)
+            && byte & 0x3a == 0x20
+            && !(before.open && x == 4);
+        let served = number(&after.waiting) < number(&before.waiting);
+        self.event(
+            Event::WaitBegun,
+            number(&after.waiting) > number(&before.waiting),
+        );
+        self.event(Event::Served, (closed || released) && served);
+        self.event(Event::Freed, (closed || released) && after.active.is_none());
+        self.event(
+            Event::Seizure,
+            !closed && !released && before.active.is_some() && after.active != before.active,
+        );
+        self.event(Event::Withdrawal, served && after.active == before.active);
+        self.event(Event::Launch, closed);
+        self.event(Event::LaunchServed, closed && served);
+        self.event(
+            Event::LaunchOver,
+            before.open && (0x4028..=0x402b).contains(&offset),
+        );
+    }
+
+    fn count_command(&mut self, before: &Before, bench: &Bench, offset: u64, byte: u8) {
+        let after = &bench.device;
+        let c = bench.write.len();
+        self.event(Event::Run, after.run != before.run);
+        self.event(Event::RunWrapped, after.run == 0 && before.run == u32::MAX);
+        let filled = before.phase == Phase::Reception(c as u16);
+        self.event(Event::CommandOfC, filled && after.run != before.run);
+        self.event(
+            Event::LastHashByte,
+            before.open
+                && after.hash.stream.count == MOST_HASH_BYTES
+                && before.hashed < MOST_HASH_BYTES,
+        );
+        if offset & 0xfff != 0x018 || before.active != Some((offset >> 12) as u8) || before.open {
+            return;
+        }
+        let idle = after.phase == Phase::Idle && byte & 0x62 == 0x40;
+        match before.phase {
+            Phase::Reception(_) => {
+                let answered = matches!(after.phase, Phase::Completion(..));
+                self.event(Event::BadSize, answered);
+                self.event(
+                    Event::CommandAboveC,
+                    answered && before.declared == c as u64 + 1,
+                );
+                self.event(Event::AbortReception, idle);
+            }
+            Phase::Execution(_) => self.event(Event::AbortExecution, idle),
+            Phase::Completion(_, read) => {
+                self.event(Event::Retry, read > 0 && byte & 0x62 == 0x02);
+                self.event(Event::AbortCompletion, idle);
+            }
+            _ => {}
+        }
+    }
+
+    pub fn print(&self) {
+        println!("calls by kind and refusal number:");
+        println!(
+            "  {:<16}{}",
+            "",
+            (0..8).map(|n| format!("{n:>9}")).collect::<String>()
+        );
+        for (name, counts) in KINDS.iter().zip(&self.refusals) {
+            let row: String = counts.iter().map(|count| format!("{count:>9}")).collect();
+            println!("  {name:<16}{row}");
+        }
+        for (name, count) in EVENTS.iter().zip(self.events) {
+            println!("  {name}: {count}");
+        }
+        println!("  most localities waiting at once: {}", self.most_waiting);
+        let [unequal, equal] = self.lengths;
+        println!("  FIFOs of equal length: {equal}, of unequal length: {unequal}");
+        println!("shape rule, records that just break a clause and just meet it:");
+        for (clause, [broken, met]) in CLAUSES.iter().zip(self.clauses) {
+            println!("  {clause}: {broken} and {met}");
+        }
+    }
+
+    /// What document 01 lets happen and no list reached.
+    pub fn missing(&self) -> Vec<String> {
+        let mut missing = Vec::new();
+        for ((name, counts), allowed) in KINDS.iter().zip(&self.refusals).zip(REFUSALS) {
+            let absent = allowed.iter().filter(|n| counts[usize::from(**n)] == 0);
+            missing.extend(absent.map(|n| format!("{name} with refusal {n}")));
+        }
+        let absent = EVENTS
+            .iter()
+            .zip(self.events)
+            .filter(|(_, count)| *count == 0);
+        missing.extend(absent.map(|(name, _)| name.to_string()));
+        for (clause, counts) in CLAUSES.iter().zip(self.clauses) {
+            if counts.contains(&0) {
+                missing.push(format!("records near '{clause}'"));
+            }
+        }
+        if self.most_waiting < 4 {
+            missing.push("four localities waiting at once".to_string());
+        }
+        missing
+    }
+}

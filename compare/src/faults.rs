@@ -1,0 +1,68 @@
+//! Streams that are no list of calls: each gets one line, and nothing behind the fault is played.
+
+use crate::front;
+use std::io;
+use std::path::Path;
+
+/// A load of a record of no flags with one byte changed, and FIFOs of these lengths, as far as there are bytes.
+fn load(place: usize, byte: u8, write: u16, read: u16) -> Vec<u8> {
+    let mut bytes = vec![b'S'];
+    bytes.resize(1 + crate::bench::IMAGE, 0);
+    bytes[1 + place] = byte;
+    bytes.extend(write.to_le_bytes());
+    bytes.extend(read.to_le_bytes());
+    bytes
+}
+
+/// The bytes behind an interrupt line question, and what is said of them.
+fn streams() -> Vec<(Vec<u8>, &'static str)> {
+    let cut = "cut short";
+    let mut streams: Vec<(Vec<u8>, &str)> = vec![
+        (vec![b'X', b'L'], "unknown opcode"),
+        (vec![0], "unknown opcode"),
+        (
+            vec![b'P', 2, 0, 0, 0, 0, 0],
+            "a flag that is neither 0 nor 1",
+        ),
+        (vec![b'A', 0, 0, 0, 0, 0x01, 0x20], "a length above 8192"),
+        (vec![b'A', 0, 0, 0, 0, 2, 0, 7], cut),
+        (load(19, 2, 0, 0), "a flag that is neither 0 nor 1"),
+        (load(21, 5, 0, 0), "a phase above 4"),
+        (load(0, 0, 8193, 0), "a length above 8192"),
+        (load(0, 0, 0, 8193), "a length above 8192"),
+        (load(0, 0, 1, 0), cut),
+        (load(0, 0, 0, 8192), cut),
+    ];
+    let whole: [&[u8]; 6] = [
+        b"P\0\0\0\0\0\0",
+        b"R\0\0\0\0\0\0\0\0",
+        b"W\0\0\0\0\0\0\0\0\0",
+        b"V\0",
+        b"C\0\0",
+        b"E\0\0",
+    ];
+    for call in whole {
+        streams.extend((1..call.len()).map(|size| (call[..size].to_vec(), cut)));
+    }
+    let load = load(0, 0, 0, 0);
+    streams.extend([1, 20, 603, 607].map(|size| (load[..size].to_vec(), cut)));
+    streams
+}
+
+/// Whether each is answered as it must be; a stream that is not is named.
+pub fn check(program: &Path) -> io::Result<Result<usize, String>> {
+    let streams = streams();
+    for (bytes, fault) in &streams {
+        let mut input = vec![b'L'];
+        input.extend(bytes);
+        let (output, errors) = front::run(program, &input)?;
+        let expected = format!("replay: call 2: {fault}\n");
+        if output != [0] || errors != expected {
+            let head = crate::call::hex(bytes);
+            return Ok(Err(format!(
+                "{head}: output {output:02x?}, said {errors:?}, not {expected:?}"
+            )));
+        }
+    }
+    Ok(Ok(streams.len()))
+}

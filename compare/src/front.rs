@@ -1,0 +1,65 @@
+//! The proved front: the program `replay`, fed and read by pipes.
+
+use crate::call::Call;
+use std::io::{self, BufReader, Read, Write};
+use std::path::Path;
+use std::process::{Child, ChildStdout, Command, Stdio};
+use std::thread;
+
+/// The bytes that a read of the pipe may bring at once.
+const ROOM: usize = 1 << 18;
+
+/// The calls with a dump behind each.
+pub fn encode<'a>(calls: impl Iterator<Item = &'a Call>) -> Vec<u8> {
+    let mut input = Vec::new();
+    for call in calls {
+        call.encode(&mut input);
+        input.push(b'D');
+    }
+    input
+}
+
+fn spawn(program: &Path, errors: Stdio) -> io::Result<Child> {
+    Command::new(program)
+        .stdin(Stdio::piped())
+        .stdout(Stdio::piped())
+        .stderr(errors)
+        .spawn()
+}
+
+/// Hands the program's output to `look` while the input goes in; a look that stops early stops the program.
+pub fn watch<T>(
+    program: &Path,
+    input: &[u8],
+    look: impl FnOnce(&mut BufReader<ChildStdout>) -> T,
+) -> io::Result<T> {
+    let mut child = spawn(program, Stdio::inherit())?;
+    let mut stdin = child.stdin.take().expect("a pipe");
+    let stdout = child.stdout.take().expect("a pipe");
+    let seen = thread::scope(|scope| {
+        // An early end of the program is seen as a cut output.
+        scope.spawn(move || stdin.write_all(input));
+        let mut reader = BufReader::with_capacity(ROOM, stdout);
+        let seen = look(&mut reader);
+        drop(reader);
+        seen
+    });
+    child.wait()?;
+    Ok(seen)
+}
+
+/// What the program writes to standard output and to standard error.
+pub fn run(program: &Path, input: &[u8]) -> io::Result<(Vec<u8>, String)> {
+    let mut child = spawn(program, Stdio::piped())?;
+    let mut stdin = child.stdin.take().expect("a pipe");
+    let mut stdout = child.stdout.take().expect("a pipe");
+    let mut stderr = child.stderr.take().expect("a pipe");
+    let (mut out, mut errors) = (Vec::new(), String::new());
+    thread::scope(|scope| {
+        scope.spawn(move || stdin.write_all(input));
+        stdout.read_to_end(&mut out)
+    })?;
+    stderr.read_to_string(&mut errors)?;
+    child.wait()?;
+    Ok((out, errors))
+}

@@ -1,0 +1,221 @@
+//! `compare_calls REPLAY SEED CALLS DIR` plays seeded lists of calls through the proved front (REPLAY) and the yardstick.
+//!
+//! After each call it compares outcome, record and both FIFOs, whole, and the waiting book. A difference is shown as the shortest
+//! failing list found, which DIR/failing has in the form that REPLAY takes. The list of number n depends on SEED and n alone.
+#![forbid(unsafe_code)]
+
+mod bench;
+mod call;
+mod coverage;
+mod examine;
+mod faults;
+mod follow;
+mod front;
+mod random;
+mod records;
+mod scene;
+mod scenes;
+mod shrink;
+
+use bench::Bench;
+use call::Call;
+use coverage::{Before, Coverage};
+use follow::Follower;
+use random::Random;
+use std::io::{self, BufRead};
+use std::path::{Path, PathBuf};
+use std::time::{Duration, Instant};
+use std::{env, fs, process};
+
+/// The calls that one run of the front plays at least.
+const BATCH: usize = 20_000;
+
+/// How often a long run says how far it is.
+const PROGRESS: Duration = Duration::from_secs(5);
+
+struct Task {
+    program: PathBuf,
+    seed: u64,
+    calls: u64,
+    folder: PathBuf,
+}
+
+fn task() -> Option<Task> {
+    let words: Vec<String> = env::args().skip(1).collect();
+    let [program, seed, calls, folder] = words.as_slice() else {
+        return None;
+    };
+    Some(Task {
+        program: program.into(),
+        seed: seed.parse().ok()?,
+        calls: calls.parse().ok()?,
+        folder: folder.into(),
+    })
+}
+
+/// The list of this number.
+fn list(seed: u64, number: u64) -> Vec<Call> {
+    let random = Random::seeded(seed ^ number.wrapping_mul(0xd134_2543_de82_ef95));
+    scenes::list(&random, number)
+}
+
+/// Whether the next bytes are these.
+fn same(reader: &mut impl BufRead, mut expected: &[u8]) -> io::Result<bool> {
+    while !expected.is_empty() {
+        let bytes = reader.fill_buf()?;
+        let n = bytes.len().min(expected.len());
+        if n == 0 || bytes[..n] != expected[..n] {
+            return Ok(false);
+        }
+        reader.consume(n);
+        expected = &expected[n..];
+    }
+    Ok(true)
+}
+
+/// Plays a list beside the front's output; false at the first difference.
+fn follow(reader: &mut impl BufRead, calls: &[Call], coverage: &mut Coverage) -> io::Result<bool> {
+    let mut follower = Follower::new();
+    let mut expected = Vec::new();
+    for call in calls {
+        expected.clear();
+        let before = Before::of(&follower.bench);
+        let refusal = follower.play(call, &mut expected);
+        if !same(reader, &expected)? {
+            return Ok(false);
+        }
+        // The front's record was just found to be the yardstick's.
+        let (active, waiting) = (follower.bench.device.active, follower.bench.device.waiting);
+        if follower.enter(call, refusal, active, &waiting).is_err() {
+            return Ok(false);
+        }
+        coverage.count(&before, call, refusal, &follower.bench, &expected);
+    }
+    Ok(true)
+}
+
+/// Plays the lists in one run of the front; gives the place of one that failed.
+fn compare(
+    program: &Path,
+    lists: &[Vec<Call>],
+    coverage: &mut Coverage,
+) -> io::Result<Option<usize>> {
+    let input = front::encode(lists.iter().flatten());
+    front::watch(program, &input, |reader| {
+        for (n, calls) in lists.iter().enumerate() {
+            if !follow(reader, calls, coverage)? {
+                return Ok(Some(n));
+            }
+        }
+        Ok(None)
+    })?
+}
+
+/// The last call alone, on the record and the FIFOs that it found.
+fn last_call(calls: &[Call]) -> Vec<Call> {
+    let mut bench = Bench::start();
+    let Some((last, before)) = calls.split_last() else {
+        return Vec::new();
+    };
+    for call in before {
+        bench.play(call, &mut Vec::new());
+    }
+    let bench = Box::new(bench);
+    vec![Call::Load { bench, note: None }, last.clone()]
+}
+
+/// Shows the shortest failing list found and keeps it.
+fn report(task: &Task, number: u64, calls: &[Call]) -> io::Result<()> {
+    println!(
+        "list {number} of seed {} fails; looking for a shorter one",
+        task.seed
+    );
+    let fails = |calls: &[Call]| {
+        let found = examine::examine(&task.program, calls).ok()?;
+        found.map(|difference| difference.at())
+    };
+    let shortest = shrink::shrink(calls, fails);
+    match examine::examine(&task.program, &shortest)? {
+        Some(difference) => print!("{difference}"),
+        None => println!("played by itself it does not fail"),
+    }
+    let place = task.folder.join("failing");
+    fs::write(&place, front::encode(shortest.iter()))?;
+    println!(
+        "{} has the list of {} calls",
+        place.display(),
+        shortest.len()
+    );
+    let last = last_call(&shortest);
+    if shortest.len() > 2 && fails(&last).is_some() {
+        println!("its last call alone, on the record that it found:");
+        if let Some(difference) = examine::examine(&task.program, &shrink::shrink(&last, fails))? {
+            print!("{difference}");
+        }
+    }
+    Ok(())
+}
+
+/// Whether all agreed and nothing was missing.
+fn run(task: &Task) -> io::Result<bool> {
+    match faults::check(&task.program)? {
+        Ok(count) => println!("{count} streams with a fault: each refused with its line"),
+        Err(text) => {
+            println!("a stream with a fault is not refused as it must be: {text}");
+            return Ok(false);
+        }
+    }
+    let began = Instant::now();
+    let mut coverage = Coverage::default();
+    let mut number = 0;
+    let mut shown = Instant::now();
+    while coverage.calls() < task.calls {
+        let first = number;
+        let mut lists = Vec::new();
+        while lists.iter().map(Vec::len).sum::<usize>() < BATCH {
+            lists.push(list(task.seed, number));
+            number += 1;
+        }
+        if let Some(n) = compare(&task.program, &lists, &mut coverage)? {
+            report(task, first + n as u64, &lists[n])?;
+            return Ok(false);
+        }
+        if shown.elapsed() >= PROGRESS {
+            shown = Instant::now();
+            let percent = coverage.calls() * 100 / task.calls.max(1);
+            println!(
+                "{} calls, {percent} %, {:.0} s",
+                coverage.calls(),
+                began.elapsed().as_secs_f64()
+            );
+        }
+    }
+    coverage.print();
+    let missing = coverage.missing();
+    for name in &missing {
+        println!("never seen: {name}");
+    }
+    let seconds = began.elapsed().as_secs_f64();
+    println!(
+        "seed {}: {} calls in {number} lists agree, {seconds:.1} s",
+        task.seed,
+        coverage.calls()
+    );
+    Ok(missing.is_empty())
+}
+
+fn main() {
+    let Some(task) = task() else {
+        eprintln!("usage: compare_calls REPLAY SEED CALLS DIR");
+        process::exit(2);
+    };
+    println!("seed {}, {} calls", task.seed, task.calls);
+    match run(&task) {
+        Ok(true) => {}
+        Ok(false) => process::exit(1),
+        Err(error) => {
+            eprintln!("compare_calls: {error}");
+            process::exit(1);
+        }
+    }
+}

@@ -1,0 +1,213 @@
+//! Records near the shape rule: each clause of document 01's list just met and just broken.
+
+use crate::bench::Bench;
+use crate::random::Random;
+use std::fmt;
+use yardstick::device::{GREATEST_C, MOST_HASH_BYTES};
+use yardstick::sha1::Sha1;
+use yardstick::{Causes, Device, HashSequence, IntEnable, Phase};
+
+/// The clauses, an upper and a lower bound counted apart.
+#[derive(Clone, Copy, Debug, PartialEq, Eq)]
+pub enum Clause {
+    ActiveAbove4,
+    WaitsWhileFree,
+    ActiveWaits,
+    PhaseWhileFree,
+    PhaseWhileOpen,
+    ReceptionLow,
+    ReceptionHigh,
+    ExecutionLow,
+    ExecutionHigh,
+    AnswerLow,
+    AnswerHigh,
+    ReadAboveAnswer,
+    OpenWithout4,
+    TooManyHashBytes,
+    HashBytesWhileClosed,
+}
+
+pub const CLAUSES: [Clause; 15] = [
+    Clause::ActiveAbove4,
+    Clause::WaitsWhileFree,
+    Clause::ActiveWaits,
+    Clause::PhaseWhileFree,
+    Clause::PhaseWhileOpen,
+    Clause::ReceptionLow,
+    Clause::ReceptionHigh,
+    Clause::ExecutionLow,
+    Clause::ExecutionHigh,
+    Clause::AnswerLow,
+    Clause::AnswerHigh,
+    Clause::ReadAboveAnswer,
+    Clause::OpenWithout4,
+    Clause::TooManyHashBytes,
+    Clause::HashBytesWhileClosed,
+];
+
+impl fmt::Display for Clause {
+    fn fmt(&self, f: &mut fmt::Formatter<'_>) -> fmt::Result {
+        f.write_str(match self {
+            Clause::ActiveAbove4 => "active above 4",
+            Clause::WaitsWhileFree => "a request waits while none is active",
+            Clause::ActiveWaits => "the active locality waits",
+            Clause::PhaseWhileFree => "a phase other than Idle with none active",
+            Clause::PhaseWhileOpen => "a phase other than Idle with a sequence open",
+            Clause::ReceptionLow => "Reception count below 1",
+            Clause::ReceptionHigh => "Reception count above C",
+            Clause::ExecutionLow => "Execution count below 10",
+            Clause::ExecutionHigh => "Execution count above C",
+            Clause::AnswerLow => "answer length below 10",
+            Clause::AnswerHigh => "answer length above C",
+            Clause::ReadAboveAnswer => "bytes read above the answer length",
+            Clause::OpenWithout4 => "sequence open and 4 not active",
+            Clause::TooManyHashBytes => "over 1,048,576 hash bytes",
+            Clause::HashBytesWhileClosed => "hash bytes with the sequence closed",
+        })
+    }
+}
+
+pub fn causes(random: &Random) -> Causes {
+    Causes {
+        command_ready: random.coin(),
+        locality_change: random.coin(),
+        data_avail: random.coin(),
+    }
+}
+
+/// In shape, nobody active: what no clause looks at is random.
+pub fn free(random: &Random) -> Device {
+    let mut device = Bench::start().device;
+    device.seized = std::array::from_fn(|_| random.coin());
+    device.enable = IntEnable {
+        global: random.coin(),
+        causes: causes(random),
+    };
+    device.status = causes(random);
+    device.established = random.coin();
+    device.identity = std::array::from_fn(|_| random.byte());
+    device.run = random.pick(&[0, 1, 7, u32::MAX - 1, u32::MAX]);
+    device.pcrs = std::array::from_fn(|_| [random.byte(); 20]);
+    device
+}
+
+/// In shape: x active, others wait.
+pub fn held(random: &Random, x: u8) -> Device {
+    let mut device = free(random);
+    device.active = Some(x);
+    device.waiting = std::array::from_fn(|y| y != usize::from(x) && random.coin());
+    device
+}
+
+/// In shape: a sequence open with `count` bytes.
+///
+/// Behind the tail stands 00h, as on every list: document 01 does not say what a digest is of any other stream.
+pub fn open(random: &Random, count: u32) -> Device {
+    let mut device = held(random, 4);
+    let mut stream = Sha1 {
+        chaining: std::array::from_fn(|_| random.next() as u32),
+        tail: [0; 64],
+        count,
+    };
+    stream.tail[..count as usize % 64].fill_with(|| random.byte());
+    device.hash = HashSequence { open: true, stream };
+    device
+}
+
+fn in_phase(random: &Random, phase: Phase) -> Device {
+    let x = random.locality();
+    let mut device = held(random, x);
+    device.phase = phase;
+    device
+}
+
+/// Any phase but Idle, in shape for every allowed C.
+pub fn busy_phase(random: &Random) -> Phase {
+    let n = random.within(10, 1024) as u16;
+    match random.below(4) {
+        0 => Phase::Ready,
+        1 => Phase::Reception(n),
+        2 => Phase::Execution(n),
+        _ => Phase::Completion(n, random.below(u64::from(n) + 1) as u16),
+    }
+}
+
+fn broken_high(random: &Random, c: u16) -> u16 {
+    random.pick(&[c + 1, c + 1, c + 64, GREATEST_C as u16 + 1, u16::MAX])
+}
+
+/// A record that just meets the clause or just breaks it, and no other, with FIFOs of `c` bytes.
+pub fn near(random: &Random, clause: Clause, met: bool, c: u16) -> Device {
+    let high = if met { c } else { broken_high(random, c) };
+    let ten = if met {
+        10
+    } else {
+        random.pick(&[9, 9, 6, 1, 0])
+    };
+    let some = random.below(5) as usize;
+    match clause {
+        Clause::ActiveAbove4 => {
+            let mut device = held(random, 4);
+            device.active = Some(if met {
+                4
+            } else {
+                random.pick(&[5, 5, 6, 7, 8, 128, 255])
+            });
+            device.waiting[4] = false;
+            device
+        }
+        Clause::WaitsWhileFree => {
+            let mut device = free(random);
+            device.waiting[some] = !met;
+            device
+        }
+        Clause::ActiveWaits => {
+            let mut device = held(random, some as u8);
+            device.waiting = std::array::from_fn(|y| y != some || !met);
+            device
+        }
+        Clause::PhaseWhileFree => {
+            let mut device = free(random);
+            device.phase = if met { Phase::Idle } else { busy_phase(random) };
+            device
+        }
+        Clause::PhaseWhileOpen => {
+            let mut device = open(random, 3);
+            device.phase = if met { Phase::Idle } else { busy_phase(random) };
+            device
+        }
+        Clause::ReceptionLow => in_phase(random, Phase::Reception(u16::from(met))),
+        Clause::ReceptionHigh => in_phase(random, Phase::Reception(high)),
+        Clause::ExecutionLow => in_phase(random, Phase::Execution(ten)),
+        Clause::ExecutionHigh => in_phase(random, Phase::Execution(high)),
+        Clause::AnswerLow => in_phase(random, Phase::Completion(ten, 0)),
+        Clause::AnswerHigh => in_phase(random, Phase::Completion(high, 0)),
+        Clause::ReadAboveAnswer => {
+            let length = random.within(10, 1023) as u16;
+            in_phase(random, Phase::Completion(length, length + u16::from(!met)))
+        }
+        Clause::OpenWithout4 => {
+            let mut device = open(random, 5);
+            device.waiting = [false; 5];
+            if !met {
+                device.active = random.pick(&[None, Some(0), Some(1), Some(2), Some(3)]);
+            }
+            device
+        }
+        Clause::TooManyHashBytes => {
+            let over = random.pick(&[1, 1, 64, u32::MAX - MOST_HASH_BYTES]);
+            open(random, MOST_HASH_BYTES + if met { 0 } else { over })
+        }
+        Clause::HashBytesWhileClosed => {
+            let x = random.locality();
+            let mut device = held(random, x);
+            device.hash.stream.tail = [random.byte(); 64];
+            device.hash.stream.count = if met {
+                0
+            } else {
+                random.pick(&[1, 64, MOST_HASH_BYTES])
+            };
+            device
+        }
+    }
+}
