@@ -1,6 +1,6 @@
 // A call that leaves everything as it is, or a dump.
 use crate::Bench;
-use replay_calls::questions::question;
+use replay_calls::asking::question;
 use replay_form::tape::least;
 
 pub fn asks(kind: u8) -> bool {
