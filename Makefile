@@ -23,10 +23,13 @@ run:
 	@target/bin/bench_sheet <crates/bench_sheet/stdin
 	@target/bin/sha1_vectors
 
-# The proved SHA-1 beside an ordinary one, both built for release.
+# The proved SHA-1 and the proved bus cycles beside ordinary ones, both built for release.
 bench:
 	rt staticlib sha1_exports
-	cargo run --quiet --release $(HOST) --features rattle --bin bench_sha1
+	rt staticlib tis_exports
+	cargo build --quiet --release $(HOST) --features rattle
+	target/cargo/release/bench_sha1
+	target/cargo/release/bench_cycles
 
 # N more calls through the front and the yardstick, from a seed of the day; `make soak N=1000000 SEED=7` picks both.
 N := 50000000

@@ -1,4 +1,4 @@
-//! Links the proved static library into the benchmark, which alone asks for it by the feature `rattle`.
+//! Tells the benchmarks where the proved static libraries are; they alone ask for them, by the feature `rattle`.
 use std::{env, path::Path};
 
 fn main() {
@@ -8,7 +8,6 @@ fn main() {
     }
     let here = env::var("CARGO_MANIFEST_DIR").unwrap();
     let folder = Path::new(&here).join("../target/staticlib");
-    println!("cargo:rerun-if-changed={}", folder.join("libsha1_exports.a").display());
+    println!("cargo:rerun-if-changed={}", folder.display());
     println!("cargo:rustc-link-search=native={}", folder.display());
-    println!("cargo:rustc-link-lib=static=sha1_exports");
 }

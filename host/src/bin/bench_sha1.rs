@@ -6,6 +6,7 @@ use std::time::Instant;
 const RUNS: usize = 31;
 
 // A slice is a pointer and then a length. The proved functions answer false where `out` has not 20 bytes.
+#[link(name = "sha1_exports", kind = "static")]
 extern "C" {
     fn sha1_at_once(m: *const u8, m_len: usize, out: *mut u8, out_len: usize) -> bool;
     fn sha1_by_byte(m: *const u8, m_len: usize, out: *mut u8, out_len: usize) -> bool;

@@ -1,0 +1,156 @@
+//! Times bus cycles of the proved front beside the yardstick's, in turn, and prints the medians with their ratio.
+//!
+//! Both play the same script of cycles over and over on a device of their own, and both give a sum of what they read and were refused, which
+//! has to be the same. `bench_cycles once NAME proved|ordinary N` plays one script N times and prints the sum: a tracer's way in.
+use std::hint::black_box;
+use std::time::Instant;
+use yardstick::Device;
+
+const RUNS: usize = 15;
+const C: usize = 1024;
+
+#[link(name = "tis_exports", kind = "static")]
+extern "C" {
+    // A slice is a pointer and then a length.
+    fn tis_play(script: *const u8, script_len: usize, answer: *const u8, answer_len: usize, times: u64) -> u64;
+}
+
+/// Four bytes each: 0 reads, 1 writes, 2 answers; the offset, high byte first; the byte written.
+struct Script {
+    name: &'static str,
+    cycles: Vec<u8>,
+    answer: Vec<u8>,
+    /// What one playing of the script counts as.
+    units: usize,
+    times: u64,
+}
+
+impl Script {
+    fn new(name: &'static str, answer: usize, units: usize, times: u64) -> Self {
+        Script { name, cycles: Vec::new(), answer: vec![0x5a; answer], units, times }
+    }
+
+    fn push(mut self, kind: u8, offset: u16, byte: u8, count: usize) -> Self {
+        for _ in 0..count {
+            self.cycles.extend([kind, (offset >> 8) as u8, offset as u8, byte]);
+        }
+        self
+    }
+
+    fn read(self, offset: u16, count: usize) -> Self {
+        self.push(0, offset, 0, count)
+    }
+
+    fn write(self, offset: u16, byte: u8) -> Self {
+        self.push(1, offset, byte, 1)
+    }
+
+    fn respond(self) -> Self {
+        self.push(2, 0, 0, 1)
+    }
+
+    /// A command of n bytes, its size in bytes 2 to 5, high byte first.
+    fn command(mut self, n: usize) -> Self {
+        let mut bytes = vec![0xa5; n];
+        bytes[2..6].copy_from_slice(&(n as u32).to_be_bytes());
+        for byte in bytes {
+            self = self.write(0x0024, byte);
+        }
+        self
+    }
+
+    /// Twice commandReady: the first drops what an earlier playing left.
+    fn ready(self) -> Self {
+        self.write(0x0000, 0x02).write(0x0018, 0x40).write(0x0018, 0x40)
+    }
+}
+
+/// A driver's whole command: request, ready, the command, go, the answer read back, ready, release.
+fn whole(name: &'static str, n: usize, times: u64) -> Script {
+    Script::new(name, n, 1, times)
+        .write(0x0000, 0x02)
+        .write(0x0018, 0x40)
+        .command(n)
+        .write(0x0018, 0x20)
+        .respond()
+        .read(0x0018, 1)
+        .read(0x0024, n)
+        .write(0x0018, 0x40)
+        .write(0x0000, 0x20)
+}
+
+fn scripts() -> Vec<Script> {
+    vec![
+        Script::new("ACCESS read", 0, 1000, 200).write(0x0000, 0x02).read(0x0000, 1000),
+        Script::new("STS read", 0, 1000, 200).ready().read(0x0018, 1000),
+        Script::new("FIFO write", 0, C, 200).ready().command(C),
+        Script::new("FIFO read", C, C, 200).ready().command(10).write(0x0018, 0x20).respond().read(0x0024, C),
+        Script::new("request and release, one waits", 0, 1, 20_000)
+            .write(0x1000, 0x02)
+            .write(0x0000, 0x02)
+            .write(0x1000, 0x20)
+            .write(0x0000, 0x20),
+        whole("command of 34 bytes, answered", 34, 2_000),
+        whole("command of 1,024 bytes, answered", C, 100),
+        Script::new("launch of 1 MiB", 0, 1, 1).write(0x4028, 0).push(1, 0x4024, 0xa5, 1 << 20).write(0x4020, 0),
+    ]
+}
+
+fn proved(s: &Script, times: u64) -> u64 {
+    unsafe { tis_play(s.cycles.as_ptr(), s.cycles.len(), s.answer.as_ptr(), s.answer.len(), times) }
+}
+
+fn ordinary(s: &Script, times: u64) -> u64 {
+    let (mut w, mut r) = ([0; C], [0; C]);
+    let (_, mut device) = Device::power_on(false, [0; 5], &mut w, &mut r);
+    let mut sum = 0u64;
+    for _ in 0..times {
+        for cycle in s.cycles.chunks_exact(4) {
+            let offset = u64::from(u16::from_be_bytes([cycle[1], cycle[2]]));
+            let said = match cycle[0] {
+                0 => device.read(&w, &r, offset).1,
+                1 => device.write(&mut w, &mut r, offset, cycle[3]) as u8,
+                _ => device.respond(&mut w, &mut r, device.run, &s.answer) as u8,
+            };
+            sum = sum.wrapping_add(u64::from(said));
+        }
+    }
+    sum
+}
+
+fn seconds(f: fn(&Script, u64) -> u64, s: &Script) -> f64 {
+    let began = Instant::now();
+    black_box(f(black_box(s), s.times));
+    began.elapsed().as_secs_f64()
+}
+
+fn median(mut times: Vec<f64>) -> f64 {
+    times.sort_by(f64::total_cmp);
+    times[times.len() / 2]
+}
+
+fn compare(s: &Script) {
+    assert_eq!(proved(s, s.times), ordinary(s, s.times), "{}: the two differ", s.name);
+    let (mut ours, mut theirs) = (Vec::new(), Vec::new());
+    for _ in 0..RUNS {
+        ours.push(seconds(proved, s));
+        theirs.push(seconds(ordinary, s));
+    }
+    let each = 1e9 / (s.units as f64 * s.times as f64);
+    let (ours, theirs) = (median(ours) * each, median(theirs) * each);
+    println!("| {} | {ours:.1} | {theirs:.1} | {:.2} |", s.name, ours / theirs);
+}
+
+fn main() {
+    let words: Vec<String> = std::env::args().skip(1).collect();
+    if let [verb, name, side, n] = &words[..] {
+        assert_eq!(verb, "once", "usage: bench_cycles [once NAME proved|ordinary N]");
+        let script = scripts().into_iter().find(|s| s.name == name).expect("no such script");
+        let f = if side == "proved" { proved } else { ordinary };
+        println!("{}", f(&script, n.parse().expect("a number")));
+        return;
+    }
+    println!("Median of {RUNS} runs; nanoseconds each, and the ratio of times, proved to ordinary\n");
+    println!("| | proved, ns | Rust, ns | ratio |\n|---|---|---|---|");
+    scripts().iter().for_each(compare);
+}
