@@ -2,9 +2,7 @@
 use libc::STDIN_FILENO;
 
 mod calls;
-mod line;
 mod play;
-mod show;
 
 use play::play;
 

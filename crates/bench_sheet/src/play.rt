@@ -6,9 +6,9 @@ use crate::calls::respond;
 use crate::calls::run;
 use crate::calls::text;
 use crate::calls::write;
-use crate::line::Step;
-use crate::line::parsed;
 use record::Device;
+use sheet_lines::line::Step;
+use sheet_lines::line::parsed;
 
 fn take(device: Device, w: &mut [u8], r: &mut [u8], s: Step) -> Device {
     let kind = s.kind;

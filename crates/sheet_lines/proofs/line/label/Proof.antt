@@ -1,8 +1,8 @@
 -- Each turn copies one character. Assumes nothing.
 use Prim.Native.Nat.{_-_, _≤_}
 use borrow.Author.Needs.{needs}
-use Rattle.bench_sheet.proofs.line.label.Statement.{statement}
-use Rattle.bench_sheet.proofs.line.label.Tie as tie
+use Rattle.sheet_lines.proofs.line.label.Statement.{statement}
+use Rattle.sheet_lines.proofs.line.label.Tie as tie
 
 abbrev Inv-loop : tie.InvT-loop
 Inv-loop line out₀ i₀ out i = i ≤ 22

@@ -3,8 +3,8 @@ use mathlib.Core.Path.{_≡_}
 use Prim.Native.Nat.{_-_, _≤_}
 use lib.ListN.{length}
 use borrow.Author.Needs.{needs}
-use Rattle.bench_sheet.proofs.line.answer.Statement.{statement}
-use Rattle.bench_sheet.proofs.line.answer.Tie as tie
+use Rattle.sheet_lines.proofs.line.answer.Statement.{statement}
+use Rattle.sheet_lines.proofs.line.answer.Tie as tie
 
 abbrev Inv-loop : tie.InvT-loop
 Inv-loop rest a₀ i₀ a i = (i ≤ 20) × (20 ≡ length a)

@@ -1,0 +1,75 @@
+// What came of each kind of line, beside what it expects.
+use crate::line::Step;
+use crate::line::byte;
+use crate::show::compare;
+use crate::show::compare_texts;
+use crate::show::hex;
+use crate::show::pair;
+use crate::show::say;
+
+// The entry.
+fn named(s: Step) {
+    let label = s.label;
+    say(&label);
+}
+
+fn cycle(what: &[u8], s: Step) {
+    named(s);
+    say(what);
+    hex(s.high);
+    hex(s.low);
+}
+
+pub fn show_power_on(s: Step, refusal: u8) {
+    named(s);
+    say(b"power-on                      refusal   ");
+    compare(0, refusal, true);
+}
+
+pub fn show_write(s: Step, n: u64, refusals: u8) {
+    let rest = s.rest;
+    cycle(b"write to ", s);
+    say(b", ");
+    hex(s.byte);
+    say(b" x ");
+    hex((n / 65536 % 256) as u8);
+    hex((n / 256 % 256) as u8);
+    hex((n % 256) as u8);
+    say(b"    refusals  ");
+    compare(byte(rest[7], rest[8]), refusals, true);
+}
+
+pub fn show_text(s: Step, refusals: u8) {
+    cycle(b"text to ", s);
+    say(b"                  refusals  ");
+    compare(0, refusals, true);
+}
+
+pub fn show_read(s: Step, got: u8, refusal: u8) {
+    let rest = s.rest;
+    cycle(b"read ", s);
+    say(b"                     byte      ");
+    let same = pair(s.byte, got);
+    say(b"  refusal");
+    compare(byte(rest[0], rest[1]), refusal, same);
+}
+
+pub fn show_answer(s: Step, refusal: u8) {
+    named(s);
+    say(b"respond to run ");
+    hex(s.low);
+    say(b"             refusal   ");
+    compare(s.high, refusal, true);
+}
+
+pub fn show_run(s: Step, run: u32) {
+    named(s);
+    say(b"                              run number");
+    compare(s.byte, (run % 256) as u8, run < 256);
+}
+
+pub fn show_pcr(s: Step, got: [u8; 40], refusal: u8) {
+    cycle(b"PCR ", s);
+    let expected = s.rest;
+    compare_texts(expected, got, refusal == 0);
+}
