@@ -12,7 +12,13 @@ const C: usize = 1024;
 #[link(name = "tis_exports", kind = "static")]
 extern "C" {
     // A slice is a pointer and then a length.
-    fn tis_play(script: *const u8, script_len: usize, answer: *const u8, answer_len: usize, times: u64) -> u64;
+    fn tis_play(
+        script: *const u8,
+        script_len: usize,
+        answer: *const u8,
+        answer_len: usize,
+        times: u64,
+    ) -> u64;
 }
 
 /// Four bytes each: 0 reads, 1 writes, 2 answers; the offset, high byte first; the byte written.
@@ -27,12 +33,19 @@ struct Script {
 
 impl Script {
     fn new(name: &'static str, answer: usize, units: usize, times: u64) -> Self {
-        Script { name, cycles: Vec::new(), answer: vec![0x5a; answer], units, times }
+        Script {
+            name,
+            cycles: Vec::new(),
+            answer: vec![0x5a; answer],
+            units,
+            times,
+        }
     }
 
     fn push(mut self, kind: u8, offset: u16, byte: u8, count: usize) -> Self {
         for _ in 0..count {
-            self.cycles.extend([kind, (offset >> 8) as u8, offset as u8, byte]);
+            self.cycles
+                .extend([kind, (offset >> 8) as u8, offset as u8, byte]);
         }
         self
     }
@@ -61,7 +74,9 @@ impl Script {
 
     /// Twice commandReady: the first drops what an earlier playing left.
     fn ready(self) -> Self {
-        self.write(0x0000, 0x02).write(0x0018, 0x40).write(0x0018, 0x40)
+        self.write(0x0000, 0x02)
+            .write(0x0018, 0x40)
+            .write(0x0018, 0x40)
     }
 }
 
@@ -81,10 +96,19 @@ fn whole(name: &'static str, n: usize, times: u64) -> Script {
 
 fn scripts() -> Vec<Script> {
     vec![
-        Script::new("ACCESS read", 0, 1000, 200).write(0x0000, 0x02).read(0x0000, 1000),
-        Script::new("STS read", 0, 1000, 200).ready().read(0x0018, 1000),
+        Script::new("ACCESS read", 0, 1000, 200)
+            .write(0x0000, 0x02)
+            .read(0x0000, 1000),
+        Script::new("STS read", 0, 1000, 200)
+            .ready()
+            .read(0x0018, 1000),
         Script::new("FIFO write", 0, C, 200).ready().command(C),
-        Script::new("FIFO read", C, C, 200).ready().command(10).write(0x0018, 0x20).respond().read(0x0024, C),
+        Script::new("FIFO read", C, C, 200)
+            .ready()
+            .command(10)
+            .write(0x0018, 0x20)
+            .respond()
+            .read(0x0024, C),
         Script::new("request and release, one waits", 0, 1, 20_000)
             .write(0x1000, 0x02)
             .write(0x0000, 0x02)
@@ -92,12 +116,23 @@ fn scripts() -> Vec<Script> {
             .write(0x0000, 0x20),
         whole("command of 34 bytes, answered", 34, 2_000),
         whole("command of 1,024 bytes, answered", C, 100),
-        Script::new("launch of 1 MiB", 0, 1, 1).write(0x4028, 0).push(1, 0x4024, 0xa5, 1 << 20).write(0x4020, 0),
+        Script::new("launch of 1 MiB", 0, 1, 1)
+            .write(0x4028, 0)
+            .push(1, 0x4024, 0xa5, 1 << 20)
+            .write(0x4020, 0),
     ]
 }
 
 fn proved(s: &Script, times: u64) -> u64 {
-    unsafe { tis_play(s.cycles.as_ptr(), s.cycles.len(), s.answer.as_ptr(), s.answer.len(), times) }
+    unsafe {
+        tis_play(
+            s.cycles.as_ptr(),
+            s.cycles.len(),
+            s.answer.as_ptr(),
+            s.answer.len(),
+            times,
+        )
+    }
 }
 
 fn ordinary(s: &Script, times: u64) -> u64 {
@@ -130,7 +165,12 @@ fn median(mut times: Vec<f64>) -> f64 {
 }
 
 fn compare(s: &Script) {
-    assert_eq!(proved(s, s.times), ordinary(s, s.times), "{}: the two differ", s.name);
+    assert_eq!(
+        proved(s, s.times),
+        ordinary(s, s.times),
+        "{}: the two differ",
+        s.name
+    );
     let (mut ours, mut theirs) = (Vec::new(), Vec::new());
     for _ in 0..RUNS {
         ours.push(seconds(proved, s));
@@ -138,19 +178,31 @@ fn compare(s: &Script) {
     }
     let each = 1e9 / (s.units as f64 * s.times as f64);
     let (ours, theirs) = (median(ours) * each, median(theirs) * each);
-    println!("| {} | {ours:.1} | {theirs:.1} | {:.2} |", s.name, ours / theirs);
+    println!(
+        "| {} | {ours:.1} | {theirs:.1} | {:.2} |",
+        s.name,
+        ours / theirs
+    );
 }
 
 fn main() {
     let words: Vec<String> = std::env::args().skip(1).collect();
     if let [verb, name, side, n] = &words[..] {
-        assert_eq!(verb, "once", "usage: bench_cycles [once NAME proved|ordinary N]");
-        let script = scripts().into_iter().find(|s| s.name == name).expect("no such script");
+        assert_eq!(
+            verb, "once",
+            "usage: bench_cycles [once NAME proved|ordinary N]"
+        );
+        let script = scripts()
+            .into_iter()
+            .find(|s| s.name == name)
+            .expect("no such script");
         let f = if side == "proved" { proved } else { ordinary };
         println!("{}", f(&script, n.parse().expect("a number")));
         return;
     }
-    println!("Median of {RUNS} runs; nanoseconds each, and the ratio of times, proved to ordinary\n");
+    println!(
+        "Median of {RUNS} runs; nanoseconds each, and the ratio of times, proved to ordinary\n"
+    );
     println!("| | proved, ns | Rust, ns | ratio |\n|---|---|---|---|");
     scripts().iter().for_each(compare);
 }

@@ -1,7 +1,7 @@
 //! Times the proved SHA-1 and the ordinary one on 1 MiB, in turn, and prints the medians with their ratio.
-use yardstick::sha1::{sha1, Sha1};
 use std::hint::black_box;
 use std::time::Instant;
+use yardstick::sha1::{sha1, Sha1};
 
 const RUNS: usize = 31;
 
@@ -50,13 +50,23 @@ fn compare(name: &str, proved: fn(&[u8]) -> [u8; 20], ordinary: fn(&[u8]) -> [u8
     }
     let (ours, theirs) = (median(ours), median(theirs));
     let mb = m.len() as f64 / 1e6;
-    println!("{name:<20}{:>12.0}{:>12.0}{:>10.2}", mb / ours, mb / theirs, ours / theirs);
+    println!(
+        "{name:<20}{:>12.0}{:>12.0}{:>10.2}",
+        mb / ours,
+        mb / theirs,
+        ours / theirs
+    );
 }
 
 fn main() {
-    let message: Vec<u8> = (0..1u32 << 20).map(|n| (n.wrapping_mul(2_654_435_761) >> 24) as u8).collect();
+    let message: Vec<u8> = (0..1u32 << 20)
+        .map(|n| (n.wrapping_mul(2_654_435_761) >> 24) as u8)
+        .collect();
     println!("SHA-1 of 1 MiB, median of {RUNS} runs; ratio of times, proved to ordinary");
-    println!("{:<20}{:>12}{:>12}{:>10}", "", "proved MB/s", "Rust MB/s", "ratio");
+    println!(
+        "{:<20}{:>12}{:>12}{:>10}",
+        "", "proved MB/s", "Rust MB/s", "ratio"
+    );
     compare("at once", proved_at_once, sha1, &message);
     compare("byte by byte", proved_by_byte, ordinary_by_byte, &message);
 }

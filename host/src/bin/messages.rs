@@ -40,7 +40,10 @@ fn main() {
     let mut random = Random(seed);
     let mut stream = Vec::new();
     for n in 0..count {
-        let length = FORCED.get(n).copied().unwrap_or_else(|| (random.next() % 4097) as usize);
+        let length = FORCED
+            .get(n)
+            .copied()
+            .unwrap_or_else(|| (random.next() % 4097) as usize);
         let message: Vec<u8> = (0..length).map(|_| random.next() as u8).collect();
         write(&folder.join(format!("{n:05}.bin")), &message);
         stream.extend_from_slice(&(length as u16).to_be_bytes());
