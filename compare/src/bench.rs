@@ -1,6 +1,7 @@
 //! A record with its two FIFOs: played by the yardstick, and as the bytes that `replay` loads and dumps.
 
-use crate::call::Call;
+use crate::turn::Turn;
+use yardstick::call::Call;
 use yardstick::{Causes, Device, Phase};
 
 /// The bytes of a record's image (docs/REPLAY.md).
@@ -32,8 +33,18 @@ impl Bench {
         }
     }
 
-    /// Plays one call, puts its outcome and gives its refusal number.
-    pub fn play(&mut self, call: &Call, out: &mut Vec<u8>) -> u8 {
+    /// Plays one turn, puts its outcome and gives its refusal number.
+    pub fn play(&mut self, turn: &Turn, out: &mut Vec<u8>) -> u8 {
+        match turn {
+            Turn::Made(call) => self.make(call, out),
+            Turn::Load { bench, .. } => {
+                *self = (**bench).clone();
+                0
+            }
+        }
+    }
+
+    fn make(&mut self, call: &Call, out: &mut Vec<u8>) -> u8 {
         let Bench {
             device,
             write,
@@ -78,10 +89,6 @@ impl Bench {
                 out.extend((part.len() as u16).to_le_bytes());
                 out.extend_from_slice(part);
                 return refusal;
-            }
-            Call::Load { bench, .. } => {
-                *self = (**bench).clone();
-                return 0;
             }
         };
         out.push(refusal);

@@ -1,8 +1,9 @@
 //! What the lists reached: calls by kind and refusal, and the events that must not be missing.
 
 use crate::bench::Bench;
-use crate::call::{Call, KINDS, REFUSALS};
 use crate::records::CLAUSES;
+use crate::turn::{Turn, KINDS, REFUSALS};
+use yardstick::call::Call;
 use yardstick::device::MOST_HASH_BYTES;
 use yardstick::{Device, Phase};
 
@@ -112,24 +113,24 @@ impl Coverage {
     pub fn count(
         &mut self,
         before: &Before,
-        call: &Call,
+        turn: &Turn,
         refusal: u8,
         after: &Bench,
         outcome: &[u8],
     ) {
-        self.refusals[call.kind()][usize::from(refusal)] += 1;
-        self.calls += u64::from(!matches!(call, Call::Load { .. }));
+        self.refusals[turn.kind()][usize::from(refusal)] += 1;
+        self.calls += u64::from(!matches!(turn, Turn::Load { .. }));
         let device = &after.device;
         self.most_waiting = self.most_waiting.max(number(&device.waiting));
-        match call {
-            Call::Load { note, bench } => {
+        match turn {
+            Turn::Load { note, bench } => {
                 if let Some((clause, met)) = note {
                     self.clauses[*clause as usize][usize::from(*met)] += 1;
                 }
                 let (write, read) = (bench.write.len(), bench.read.len());
                 self.lengths[usize::from(write == read)] += 1;
             }
-            Call::Respond { answer, .. } => {
+            Turn::Made(Call::Respond { answer, .. }) => {
                 let c = after.read.len();
                 self.event(Event::AnswerOfC, refusal == 0 && answer.len() == c);
                 self.event(Event::AnswerAboveC, refusal == 4 && answer.len() == c + 1);
@@ -137,8 +138,8 @@ impl Coverage {
                 self.event(Event::Answer, refusal == 0);
                 self.event(Event::StaleAnswer, refusal == 3 && executing);
             }
-            Call::InterruptLine => self.event(Event::Line, outcome[0] == 1),
-            Call::Write { offset, byte } if refusal == 0 => {
+            Turn::Made(Call::InterruptLine) => self.event(Event::Line, outcome[0] == 1),
+            Turn::Made(Call::Write { offset, byte }) if refusal == 0 => {
                 self.count_holding(before, device, *offset, *byte);
                 self.count_command(before, after, *offset, *byte);
             }

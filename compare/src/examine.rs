@@ -1,12 +1,13 @@
 //! One list looked at closely: the first call after which the front, the yardstick and the waiting book do not agree.
 
 use crate::bench::{BANK, IMAGE, PARTS};
-use crate::call::{hex, Call};
 use crate::follow::Follower;
 use crate::front;
+use crate::turn::{hex, Turn};
 use std::fmt;
 use std::io;
 use std::path::Path;
+use yardstick::call::Call;
 
 /// A call with what the front and the yardstick gave.
 #[derive(PartialEq)]
@@ -72,13 +73,13 @@ impl<'a> Output<'a> {
         Some(usize::from(u16::from_le_bytes([bytes[0], bytes[1]])))
     }
 
-    fn outcome(&mut self, call: &Call) -> Option<&'a [u8]> {
-        let size = match call {
-            Call::Load { .. } => 0,
-            Call::Read { .. } | Call::MayReset { .. } | Call::MayExtend { .. } => 2,
-            Call::PcrValue { .. } => 21,
-            Call::Window => 3 + self.length(1)?,
-            _ => 1,
+    fn outcome(&mut self, turn: &Turn) -> Option<&'a [u8]> {
+        let size = match turn {
+            Turn::Load { .. } => 0,
+            Turn::Made(Call::Read { .. } | Call::MayReset { .. } | Call::MayExtend { .. }) => 2,
+            Turn::Made(Call::PcrValue { .. }) => 21,
+            Turn::Made(Call::Window) => 3 + self.length(1)?,
+            Turn::Made(_) => 1,
         };
         self.take(size)
     }
@@ -89,9 +90,11 @@ impl<'a> Output<'a> {
     }
 }
 
-fn show(call: &Call, outcome: &[u8]) -> String {
+fn show(turn: &Turn, outcome: &[u8]) -> String {
+    let Turn::Made(call) = turn else {
+        return String::new();
+    };
     match (call, outcome) {
-        (Call::Load { .. }, _) => String::new(),
         (Call::Read { .. }, [refusal, byte]) => format!("{refusal} byte {byte:02x}"),
         (Call::InterruptLine, [line]) => format!("line {line}"),
         (Call::Window, [refusal, _, _, part @ ..]) => format!("{refusal} bytes {}", hex(part)),
@@ -162,29 +165,29 @@ fn holding(image: &[u8]) -> (Option<u8>, [bool; 5]) {
 }
 
 /// Plays a list and gives its first difference.
-pub fn examine(program: &Path, calls: &[Call]) -> io::Result<Option<Difference>> {
-    let (output, errors) = front::run(program, &front::encode(calls.iter()))?;
+pub fn examine(program: &Path, turns: &[Turn]) -> io::Result<Option<Difference>> {
+    let (output, errors) = front::run(program, &front::encode(turns.iter()))?;
     let mut output = Output(&output);
     let mut follower = Follower::new();
     let mut rows = Vec::new();
-    for call in calls {
+    for turn in turns {
         let mut expected = Vec::new();
-        follower.bench.play(call, &mut expected);
+        follower.bench.play(turn, &mut expected);
         let mut dump = Vec::new();
         follower.bench.dump(&mut dump);
-        let got = output.outcome(call).zip(output.dump());
+        let got = output.outcome(turn).zip(output.dump());
         rows.push(Row {
-            call: call.to_string(),
-            front: got.map_or("stopped".to_string(), |(outcome, _)| show(call, outcome)),
-            yardstick: show(call, &expected),
+            call: turn.to_string(),
+            front: got.map_or("stopped".to_string(), |(outcome, _)| show(turn, outcome)),
+            yardstick: show(turn, &expected),
         });
         let Some((outcome, image)) = got else {
             let what = vec![format!("the front stopped: {}", errors.trim())];
             return Ok(Some(Difference { rows, what }));
         };
         let (active, waiting) = holding(image);
-        let refusal = match call {
-            Call::InterruptLine | Call::Load { .. } => 0,
+        let refusal = match turn {
+            Turn::Made(Call::InterruptLine) | Turn::Load { .. } => 0,
             _ => outcome[0],
         };
         let mut what = Vec::new();
@@ -192,7 +195,7 @@ pub fn examine(program: &Path, calls: &[Call]) -> io::Result<Option<Difference>>
             what.push("the outcomes differ".to_string());
         }
         what.extend(differences(image, &dump));
-        if let Err(law) = follower.enter(call, refusal, active, &waiting) {
+        if let Err(law) = follower.enter(turn, refusal, active, &waiting) {
             what.push(law);
         }
         if !what.is_empty() {

@@ -58,7 +58,7 @@ pub fn check(program: &Path) -> io::Result<Result<usize, String>> {
         let (output, errors) = front::run(program, &input)?;
         let expected = format!("replay: call 2: {fault}\n");
         if output != [0] || errors != expected {
-            let head = crate::call::hex(bytes);
+            let head = crate::turn::hex(bytes);
             return Ok(Err(format!(
                 "{head}: output {output:02x?}, said {errors:?}, not {expected:?}"
             )));

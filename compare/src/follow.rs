@@ -1,9 +1,10 @@
 //! The yardstick and the waiting book, one call after the other beside the front.
 
 use crate::bench::Bench;
-use crate::call::Call;
 use crate::records::Clause;
+use crate::turn::Turn;
 use yardstick::book::Watch;
+use yardstick::call::Call;
 use yardstick::device::FIFO_LENGTHS;
 
 pub struct Follower {
@@ -22,9 +23,9 @@ impl Follower {
         }
     }
 
-    /// Plays a call on the yardstick and puts its outcome and the dump behind it; gives the refusal number.
-    pub fn play(&mut self, call: &Call, out: &mut Vec<u8>) -> u8 {
-        let refusal = self.bench.play(call, out);
+    /// Plays a turn on the yardstick and puts its outcome and the dump behind it; gives the refusal number.
+    pub fn play(&mut self, turn: &Turn, out: &mut Vec<u8>) -> u8 {
+        let refusal = self.bench.play(turn, out);
         self.bench.dump(out);
         refusal
     }
@@ -32,19 +33,21 @@ impl Follower {
     /// Tells the book of a call and the front's refusal number, and holds it against the front's active locality and waiting flags.
     pub fn enter(
         &mut self,
-        call: &Call,
+        turn: &Turn,
         refusal: u8,
         active: Option<u8>,
         waiting: &[bool; 5],
     ) -> Result<(), String> {
-        match call {
-            Call::PowerOn { .. } => self.watch = Some(self.watch.take().unwrap_or_default()),
-            Call::Load { note, .. } => (self.watch, self.note) = (None, *note),
-            _ => {}
+        match turn {
+            Turn::Made(Call::PowerOn { .. }) => {
+                self.watch = Some(self.watch.take().unwrap_or_default());
+            }
+            Turn::Load { note, .. } => (self.watch, self.note) = (None, *note),
+            Turn::Made(_) => {}
         }
-        if let (Some(watch), Some(told)) = (&mut self.watch, call.for_book()) {
+        if let (Some(watch), Turn::Made(call)) = (&mut self.watch, turn) {
             watch
-                .tell(&told, refusal)
+                .tell(call, refusal)
                 .map_err(|broken| format!("waiting book: {broken}"))?;
         }
         if let Some(watch) = &self.watch {
@@ -58,16 +61,16 @@ impl Follower {
                 )
             })?;
         }
-        self.check_note(call, refusal)
+        self.check_note(turn, refusal)
     }
 
     /// A record made to meet a clause of the shape rule is accepted by the next call, one made to break it refused with 6.
-    fn check_note(&mut self, call: &Call, refusal: u8) -> Result<(), String> {
-        if matches!(call, Call::Load { .. }) {
+    fn check_note(&mut self, turn: &Turn, refusal: u8) -> Result<(), String> {
+        if matches!(turn, Turn::Load { .. }) {
             return Ok(());
         }
         let note = self.note.take();
-        let (Some((clause, met)), Call::Window) = (note, call) else {
+        let (Some((clause, met)), Turn::Made(Call::Window)) = (note, turn) else {
             return Ok(());
         };
         let due = if met { 0 } else { 6 };

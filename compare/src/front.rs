@@ -1,6 +1,6 @@
 //! The proved front: the program `replay`, fed and read by pipes.
 
-use crate::call::Call;
+use crate::turn::Turn;
 use std::io::{self, BufReader, Read, Write};
 use std::path::Path;
 use std::process::{Child, ChildStdout, Command, Stdio};
@@ -9,11 +9,11 @@ use std::thread;
 /// The bytes that a read of the pipe may bring at once.
 const ROOM: usize = 1 << 18;
 
-/// The calls with a dump behind each.
-pub fn encode<'a>(calls: impl Iterator<Item = &'a Call>) -> Vec<u8> {
+/// The turns with a dump behind each.
+pub fn encode<'a>(turns: impl Iterator<Item = &'a Turn>) -> Vec<u8> {
     let mut input = Vec::new();
-    for call in calls {
-        call.encode(&mut input);
+    for turn in turns {
+        turn.encode(&mut input);
         input.push(b'D');
     }
     input

@@ -5,7 +5,6 @@
 #![forbid(unsafe_code)]
 
 mod bench;
-mod call;
 mod coverage;
 mod examine;
 mod faults;
@@ -16,9 +15,9 @@ mod records;
 mod scene;
 mod scenes;
 mod shrink;
+mod turn;
 
 use bench::Bench;
-use call::Call;
 use coverage::{Before, Coverage};
 use follow::Follower;
 use random::Random;
@@ -26,6 +25,7 @@ use std::io::{self, BufRead};
 use std::path::{Path, PathBuf};
 use std::time::{Duration, Instant};
 use std::{env, fs, process};
+use turn::Turn;
 
 /// The calls that one run of the front plays at least.
 const BATCH: usize = 20_000;
@@ -54,7 +54,7 @@ fn task() -> Option<Task> {
 }
 
 /// The list of this number.
-fn list(seed: u64, number: u64) -> Vec<Call> {
+fn list(seed: u64, number: u64) -> Vec<Turn> {
     let random = Random::seeded(seed ^ number.wrapping_mul(0xd134_2543_de82_ef95));
     scenes::list(&random, number)
 }
@@ -74,7 +74,7 @@ fn same(reader: &mut impl BufRead, mut expected: &[u8]) -> io::Result<bool> {
 }
 
 /// Plays a list beside the front's output; false at the first difference.
-fn follow(reader: &mut impl BufRead, calls: &[Call], coverage: &mut Coverage) -> io::Result<bool> {
+fn follow(reader: &mut impl BufRead, calls: &[Turn], coverage: &mut Coverage) -> io::Result<bool> {
     let mut follower = Follower::new();
     let mut expected = Vec::new();
     for call in calls {
@@ -97,7 +97,7 @@ fn follow(reader: &mut impl BufRead, calls: &[Call], coverage: &mut Coverage) ->
 /// Plays the lists in one run of the front; gives the place of one that failed.
 fn compare(
     program: &Path,
-    lists: &[Vec<Call>],
+    lists: &[Vec<Turn>],
     coverage: &mut Coverage,
 ) -> io::Result<Option<usize>> {
     let input = front::encode(lists.iter().flatten());
@@ -112,7 +112,7 @@ fn compare(
 }
 
 /// The last call alone, on the record and the FIFOs that it found.
-fn last_call(calls: &[Call]) -> Vec<Call> {
+fn last_call(calls: &[Turn]) -> Vec<Turn> {
     let mut bench = Bench::start();
     let Some((last, before)) = calls.split_last() else {
         return Vec::new();
@@ -121,16 +121,16 @@ fn last_call(calls: &[Call]) -> Vec<Call> {
         bench.play(call, &mut Vec::new());
     }
     let bench = Box::new(bench);
-    vec![Call::Load { bench, note: None }, last.clone()]
+    vec![Turn::Load { bench, note: None }, last.clone()]
 }
 
 /// Shows the shortest failing list found and keeps it.
-fn report(task: &Task, number: u64, calls: &[Call]) -> io::Result<()> {
+fn report(task: &Task, number: u64, calls: &[Turn]) -> io::Result<()> {
     println!(
         "list {number} of seed {} fails; looking for a shorter one",
         task.seed
     );
-    let fails = |calls: &[Call]| {
+    let fails = |calls: &[Turn]| {
         let found = examine::examine(&task.program, calls).ok()?;
         found.map(|difference| difference.at())
     };

@@ -1,9 +1,10 @@
 //! A list of calls in the making: the yardstick plays along, so that a scene knows whose turn it is.
 
 use crate::bench::Bench;
-use crate::call::Call;
 use crate::random::Random;
 use crate::records;
+use crate::turn::Turn;
+use yardstick::call::Call;
 use yardstick::Device;
 
 pub const ACCESS: u64 = 0x000;
@@ -33,7 +34,7 @@ pub fn at(x: u8, within: u64) -> u64 {
 pub struct Scene<'a> {
     pub random: &'a Random,
     pub bench: Bench,
-    pub calls: Vec<Call>,
+    pub turns: Vec<Turn>,
     outcome: Vec<u8>,
 }
 
@@ -42,15 +43,16 @@ impl Scene<'_> {
         Scene {
             random,
             bench: Bench::start(),
-            calls: Vec::new(),
+            turns: Vec::new(),
             outcome: Vec::new(),
         }
     }
 
-    pub fn call(&mut self, call: Call) -> u8 {
+    pub fn call(&mut self, turn: impl Into<Turn>) -> u8 {
+        let turn = turn.into();
         self.outcome.clear();
-        let refusal = self.bench.play(&call, &mut self.outcome);
-        self.calls.push(call);
+        let refusal = self.bench.play(&turn, &mut self.outcome);
+        self.turns.push(turn);
         refusal
     }
 
@@ -72,7 +74,7 @@ impl Scene<'_> {
             write,
             read,
         });
-        self.call(Call::Load { bench, note: None });
+        self.call(Turn::Load { bench, note: None });
     }
 
     /// Mostly the least C, which is the fastest to fill.
@@ -219,7 +221,7 @@ impl Scene<'_> {
         }
     }
 
-    pub fn turns(&mut self, most: u64) -> u64 {
+    pub fn how_many(&mut self, most: u64) -> u64 {
         self.random.within(most / 4, most)
     }
 }

@@ -1,10 +1,11 @@
 //! The scenes: seeded lists of calls, biased to where faults hide.
 
 use crate::bench::Bench;
-use crate::call::Call;
 use crate::random::Random;
 use crate::records::{self, CLAUSES};
 use crate::scene::{at, Scene, ACCESS, FIFO, STS, WITHIN};
+use crate::turn::Turn;
+use yardstick::call::Call;
 use yardstick::device::MOST_HASH_BYTES;
 use yardstick::Phase;
 
@@ -23,7 +24,7 @@ const HASH_DATA: u64 = 0x4024;
 const HASH_START: u64 = 0x4028;
 
 /// One list of calls that begins with a load.
-pub fn list(random: &Random, number: u64) -> Vec<Call> {
+pub fn list(random: &Random, number: u64) -> Vec<Turn> {
     let mut scene = Scene::new(random);
     match number % 12 {
         0 => scene.holders(),
@@ -36,7 +37,7 @@ pub fn list(random: &Random, number: u64) -> Vec<Call> {
         7 | 10 => scene.runs(),
         _ => scene.anything(),
     }
-    scene.calls
+    scene.turns
 }
 
 impl Scene<'_> {
@@ -44,7 +45,7 @@ impl Scene<'_> {
     fn holders(&mut self) {
         let c = self.c();
         self.power_on(c);
-        for _ in 0..self.turns(1200) {
+        for _ in 0..self.how_many(1200) {
             let x = self.random.locality();
             match self.random.below(25) {
                 0..=9 => self.access(x, REQUEST_USE),
@@ -203,8 +204,8 @@ impl Scene<'_> {
     fn commands(&mut self) {
         let c = self.c();
         self.power_on(c);
-        let end = self.turns(1500) as usize;
-        while self.calls.len() < end {
+        let end = self.how_many(1500) as usize;
+        while self.turns.len() < end {
             self.command();
         }
     }
@@ -212,8 +213,8 @@ impl Scene<'_> {
     /// Hash sequences with waiting localities, restarted now and then.
     fn launches(&mut self) {
         self.power_on(1024);
-        let end = self.turns(1200) as usize;
-        while self.calls.len() < end {
+        let end = self.how_many(1200) as usize;
+        while self.turns.len() < end {
             self.launch();
         }
     }
@@ -302,7 +303,7 @@ impl Scene<'_> {
                 read: self.fifo(c),
             });
             let note = Some((clause, met));
-            self.call(Call::Load { bench, note });
+            self.call(Turn::Load { bench, note });
             self.call(Call::Window);
             if self.random.coin() {
                 self.call(Call::PcrValue { pcr: 17 });
@@ -342,7 +343,7 @@ impl Scene<'_> {
     fn interrupts(&mut self) {
         let c = self.c();
         self.power_on(c);
-        for _ in 0..self.turns(400) {
+        for _ in 0..self.how_many(400) {
             let x = if self.random.once_in(4) {
                 self.random.locality()
             } else {
@@ -414,7 +415,7 @@ impl Scene<'_> {
     fn anything(&mut self) {
         let c = self.c();
         self.power_on(c);
-        for _ in 0..self.turns(800) {
+        for _ in 0..self.how_many(800) {
             self.any_call();
         }
     }

@@ -1,17 +1,18 @@
 //! A failing list made shorter and simpler: calls are left out, then their arguments replaced.
 
 use crate::bench::Bench;
-use crate::call::Call;
+use crate::turn::Turn;
+use yardstick::call::Call;
 use yardstick::{HashSequence, Phase};
 
 /// The tries that a list gets; each plays it once.
 const TRIES: usize = 3000;
 
 /// The shortest list found that `fails`, which gives the place of the first difference.
-pub fn shrink(calls: &[Call], mut fails: impl FnMut(&[Call]) -> Option<usize>) -> Vec<Call> {
+pub fn shrink(calls: &[Turn], mut fails: impl FnMut(&[Turn]) -> Option<usize>) -> Vec<Turn> {
     let mut left = TRIES;
     let mut best = calls.to_vec();
-    let mut try_list = |best: &mut Vec<Call>, candidate: Vec<Call>| -> bool {
+    let mut try_list = |best: &mut Vec<Turn>, candidate: Vec<Turn>| -> bool {
         if left == 0 {
             return false;
         }
@@ -34,10 +35,10 @@ pub fn shrink(calls: &[Call], mut fails: impl FnMut(&[Call]) -> Option<usize>) -
     }
 }
 
-type Try<'a> = dyn FnMut(&mut Vec<Call>, Vec<Call>) -> bool + 'a;
+type Try<'a> = dyn FnMut(&mut Vec<Turn>, Vec<Turn>) -> bool + 'a;
 
 /// Leaves out runs of calls, long ones first.
-fn remove(best: &mut Vec<Call>, try_list: &mut Try) -> bool {
+fn remove(best: &mut Vec<Turn>, try_list: &mut Try) -> bool {
     let mut changed = false;
     let mut size = best.len() / 2;
     while size > 0 {
@@ -57,7 +58,7 @@ fn remove(best: &mut Vec<Call>, try_list: &mut Try) -> bool {
 }
 
 /// Takes the first simpler form of each call that still fails.
-fn simplify(best: &mut Vec<Call>, try_list: &mut Try) -> bool {
+fn simplify(best: &mut Vec<Turn>, try_list: &mut Try) -> bool {
     let mut changed = false;
     let mut at = 0;
     while at < best.len() {
@@ -74,7 +75,14 @@ fn simplify(best: &mut Vec<Call>, try_list: &mut Try) -> bool {
     changed
 }
 
-fn simpler(call: &Call) -> Vec<Call> {
+fn simpler(turn: &Turn) -> Vec<Turn> {
+    match turn {
+        Turn::Made(call) => simpler_calls(call).into_iter().map(Turn::Made).collect(),
+        Turn::Load { bench, .. } => loads(bench),
+    }
+}
+
+fn simpler_calls(call: &Call) -> Vec<Call> {
     match call {
         Call::PowerOn { .. } => vec![Call::PowerOn {
             established: false,
@@ -92,7 +100,6 @@ fn simpler(call: &Call) -> Vec<Call> {
                 answer: vec![0x11; length],
             })
             .collect(),
-        Call::Load { bench, .. } => loads(bench),
         _ => Vec::new(),
     }
 }
@@ -109,7 +116,7 @@ fn write_forms(offset: u64, byte: u8) -> Vec<Call> {
 }
 
 /// One part of the record at a time as a power-on leaves it.
-fn loads(bench: &Bench) -> Vec<Call> {
+fn loads(bench: &Bench) -> Vec<Turn> {
     let fresh = Bench::start().device;
     let c = bench.write.len();
     let edits: [&dyn Fn(&mut Bench); 16] = [
@@ -133,7 +140,7 @@ fn loads(bench: &Bench) -> Vec<Call> {
     let edited = |edit: &dyn Fn(&mut Bench)| {
         let mut after = bench.clone();
         edit(&mut after);
-        Call::Load {
+        Turn::Load {
             bench: Box::new(after),
             note: None,
         }
@@ -147,15 +154,15 @@ mod tests {
     use crate::random::Random;
     use crate::scenes;
 
-    fn request(x: u64) -> Call {
-        Call::Write {
+    fn request(x: u64) -> Turn {
+        Turn::Made(Call::Write {
             offset: x << 12,
             byte: 0x02,
-        }
+        })
     }
 
     /// Fails where locality 3 asks some time after locality 1 did.
-    fn fails(calls: &[Call]) -> Option<usize> {
+    fn fails(calls: &[Turn]) -> Option<usize> {
         let first = calls.iter().position(|call| *call == request(1))?;
         let second = calls[first..].iter().position(|call| *call == request(3))?;
         Some(first + second)

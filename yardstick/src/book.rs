@@ -1,35 +1,10 @@
 //! The waiting book, kept from calls and refusal numbers alone, and a watch over its laws.
 
+use crate::call::Call;
 use std::fmt;
 
 const LOCALITIES: usize = 5;
 const HASH_LOCALITY: u8 = 4;
-
-/// One call with its arguments other than the record and the FIFOs.
-#[derive(Clone, Copy, Debug, PartialEq, Eq)]
-pub enum Call<'a> {
-    PowerOn {
-        established: bool,
-        identity: [u8; 5],
-    },
-    Reset,
-    Read {
-        offset: u64,
-    },
-    Write {
-        offset: u64,
-        byte: u8,
-    },
-    Respond {
-        run: u32,
-        answer: &'a [u8],
-    },
-    PcrValue {
-        pcr: u8,
-    },
-    InterruptLine,
-    Window,
-}
 
 /// What a call means to those who wait.
 #[derive(Clone, Copy, Debug, PartialEq, Eq)]
@@ -329,7 +304,7 @@ mod tests {
     const RELEASE: u8 = 0x20;
     const SEIZE: u8 = 0x08;
 
-    fn access(x: u8, byte: u8) -> Call<'static> {
+    fn access(x: u8, byte: u8) -> Call {
         Call::Write {
             offset: u64::from(x) << 12,
             byte,
@@ -403,7 +378,12 @@ mod tests {
             offset: 0x4023,
             byte: 0,
         };
-        let mut watch = told(&[start, access(4, RELEASE), access(2, REQUEST), start]);
+        let mut watch = told(&[
+            start.clone(),
+            access(4, RELEASE),
+            access(2, REQUEST),
+            start.clone(),
+        ]);
         assert_eq!(
             *watch.book(),
             Book {
@@ -432,7 +412,7 @@ mod tests {
                 .tell(
                     &Call::Respond {
                         run: 0,
-                        answer: &[],
+                        answer: Vec::new(),
                     },
                     refusal,
                 )

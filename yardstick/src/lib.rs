@@ -2,6 +2,7 @@
 #![forbid(unsafe_code)]
 
 pub mod book;
+pub mod call;
 pub mod device;
 pub mod sha1;
 

@@ -3,7 +3,8 @@
 mod common;
 
 use common::{Bench, Dice, ID};
-use yardstick::book::{Call, Watch};
+use yardstick::book::Watch;
+use yardstick::call::Call;
 use yardstick::sha1::Sha1;
 use yardstick::{Causes, Device, HashSequence, IntEnable, Phase};
 
@@ -22,12 +23,14 @@ fn play(bench: &mut Bench, call: &Call) -> u8 {
         Call::Reset => bench.reset(),
         Call::Read { offset } => bench.read(offset).0,
         Call::Write { offset, byte } => bench.write(offset, byte),
-        Call::Respond { run, answer } => bench.respond(run, answer),
+        Call::Respond { run, ref answer } => bench.respond(run, answer),
         Call::PcrValue { pcr } => bench.device.pcr_value(pcr).0,
         Call::InterruptLine => {
             bench.device.interrupt_line();
             0
         }
+        Call::MayReset { pcr, locality } => Device::may_reset(pcr, locality).0,
+        Call::MayExtend { pcr, locality } => Device::may_extend(pcr, locality).0,
         Call::Window => bench.window().0,
     }
 }
@@ -56,7 +59,7 @@ fn any_byte(dice: &mut Dice) -> u8 {
     }
 }
 
-fn any_call<'a>(dice: &mut Dice, run: u32, answer: &'a [u8]) -> Call<'a> {
+fn any_call(dice: &mut Dice, run: u32, answer: &[u8]) -> Call {
     match dice.below(1000) {
         0 => Call::PowerOn {
             established: dice.coin(),
@@ -75,14 +78,22 @@ fn any_call<'a>(dice: &mut Dice, run: u32, answer: &'a [u8]) -> Call<'a> {
             };
             Call::Respond {
                 run,
-                answer: &answer[..length],
+                answer: answer[..length].to_vec(),
             }
         }
         251..=270 => Call::PcrValue {
             pcr: dice.below(30) as u8,
         },
         271..=280 => Call::InterruptLine,
-        281..=300 => Call::Window,
+        281..=290 => Call::Window,
+        291..=295 => Call::MayReset {
+            pcr: dice.below(30) as u8,
+            locality: dice.below(6) as u8,
+        },
+        296..=300 => Call::MayExtend {
+            pcr: dice.below(30) as u8,
+            locality: dice.below(6) as u8,
+        },
         _ => Call::Write {
             offset: any_offset(dice),
             byte: any_byte(dice),
@@ -91,7 +102,7 @@ fn any_call<'a>(dice: &mut Dice, run: u32, answer: &'a [u8]) -> Call<'a> {
 }
 
 /// The writes of a whole ten-byte command by the active locality, which dice would seldom roll.
-fn whole_command(active: u8) -> Vec<Call<'static>> {
+fn whole_command(active: u8) -> Vec<Call> {
     let put = |within, byte| Call::Write {
         offset: common::at(active, within),
         byte,
@@ -114,7 +125,11 @@ fn play_watched(bench: &mut Bench, watch: &mut Watch, call: &Call) -> u8 {
     assert_ne!(refusal, 6, "no list leaves the shape");
     let question = matches!(
         call,
-        Call::PcrValue { .. } | Call::InterruptLine | Call::Window
+        Call::PcrValue { .. }
+            | Call::InterruptLine
+            | Call::MayReset { .. }
+            | Call::MayExtend { .. }
+            | Call::Window
     );
     let refused = refusal != 0 && !matches!(call, Call::PowerOn { .. });
     assert!(
