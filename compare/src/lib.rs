@@ -1,7 +1,7 @@
-//! `compare_calls REPLAY SEED CALLS DIR` plays seeded lists of calls through the proved front (REPLAY) and the yardstick.
+//! Seeded lists of calls, played through the proved front (the program `replay`) and the yardstick and compared.
 //!
-//! After each call it compares outcome, record and both FIFOs, whole, and the waiting book. A difference is shown as the shortest
-//! failing list found, which DIR/failing has in the form that REPLAY takes. The list of number n depends on SEED and n alone.
+//! After each call outcome, record and both FIFOs, whole, and the waiting book are compared. The list of number n depends on the seed
+//! and n alone.
 #![forbid(unsafe_code)]
 
 mod bench;
@@ -21,10 +21,10 @@ use bench::Bench;
 use coverage::{Before, Coverage};
 use follow::Follower;
 use random::Random;
+use std::fs;
 use std::io::{self, BufRead};
 use std::path::{Path, PathBuf};
 use std::time::{Duration, Instant};
-use std::{env, fs, process};
 use turn::Turn;
 
 /// The calls that one run of the front plays at least.
@@ -33,24 +33,15 @@ const BATCH: usize = 20_000;
 /// How often a long run says how far it is.
 const PROGRESS: Duration = Duration::from_secs(5);
 
-struct Task {
-    program: PathBuf,
-    seed: u64,
-    calls: u64,
-    folder: PathBuf,
-}
-
-fn task() -> Option<Task> {
-    let words: Vec<String> = env::args().skip(1).collect();
-    let [program, seed, calls, folder] = words.as_slice() else {
-        return None;
-    };
-    Some(Task {
-        program: program.into(),
-        seed: seed.parse().ok()?,
-        calls: calls.parse().ok()?,
-        folder: folder.into(),
-    })
+/// What is to be compared.
+pub struct Task {
+    /// `replay`, as it was proved and built.
+    pub program: PathBuf,
+    pub seed: u64,
+    /// How many calls at least.
+    pub calls: u64,
+    /// Where the shortest failing list found is kept.
+    pub folder: PathBuf,
 }
 
 /// The list of this number.
@@ -156,8 +147,9 @@ fn report(task: &Task, number: u64, calls: &[Turn]) -> io::Result<()> {
     Ok(())
 }
 
-/// Whether all agreed and nothing was missing.
-fn run(task: &Task) -> io::Result<bool> {
+/// Compares, saying how far it is. Whether all agreed and nothing was missing.
+pub fn run(task: &Task) -> io::Result<bool> {
+    println!("seed {}, {} calls", task.seed, task.calls);
     match faults::check(&task.program)? {
         Ok(count) => println!("{count} streams with a fault: each refused with its line"),
         Err(text) => {
@@ -202,20 +194,4 @@ fn run(task: &Task) -> io::Result<bool> {
         coverage.calls()
     );
     Ok(missing.is_empty())
-}
-
-fn main() {
-    let Some(task) = task() else {
-        eprintln!("usage: compare_calls REPLAY SEED CALLS DIR");
-        process::exit(2);
-    };
-    println!("seed {}, {} calls", task.seed, task.calls);
-    match run(&task) {
-        Ok(true) => {}
-        Ok(false) => process::exit(1),
-        Err(error) => {
-            eprintln!("compare_calls: {error}");
-            process::exit(1);
-        }
-    }
 }
