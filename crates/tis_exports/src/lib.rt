@@ -1,9 +1,8 @@
 // The register front for callers that are not Rattle: plays cycles from a slice, as often as asked. What the benchmark links.
-ghost use Prim.Native.Nat.{_+_, _<_, _≤_};
-ghost use lib.ListN.{length};
+ghost use Prim.Native.Nat.{_<_};
 use record::Device;
 
-// What is left after a cycle, and the sum of the bytes and refusal numbers so far, which shows that nothing was skipped.
+// What is left after playing the script, and the sum of the bytes and refusal numbers so far, which shows that nothing was skipped.
 struct Turn {
     device: Device,
     sum: u64,
@@ -15,56 +14,12 @@ fn wide(b: u8) -> u64
     b as u64
 }
 
-fn read(device: Device, w: &[u8], r: &[u8], offset: u64, sum: u64) -> Turn {
-    let o = tis::read(device, w, r, offset);
-    let left = o.device;
-    Turn {
-        device: left,
-        sum: std::num::wrapping_add_u64(sum, wide(o.byte)),
-    }
+fn plus(sum: u64, b: u8) -> u64 {
+    std::num::wrapping_add_u64(sum, wide(b))
 }
 
-fn write(device: Device, w: &mut [u8], r: &mut [u8], offset: u64, byte: u8, sum: u64) -> Turn {
-    let o = tis::write(device, w, r, offset, byte);
-    let left = o.device;
-    Turn {
-        device: left,
-        sum: std::num::wrapping_add_u64(sum, wide(o.refusal)),
-    }
-}
-
-// The engine answers the run under way with the bytes lent.
-fn respond(device: Device, w: &mut [u8], r: &mut [u8], answer: &[u8], sum: u64) -> Turn {
-    let control = device.control;
-    let o = tis::respond(device, w, r, control.run, answer);
-    let left = o.device;
-    Turn {
-        device: left,
-        sum: std::num::wrapping_add_u64(sum, wide(o.refusal)),
-    }
-}
-
-// Four bytes of the script: 0 reads, 1 writes, anything else answers; the offset, high byte first; the byte written.
-fn cycle(
-    device: Device,
-    w: &mut [u8],
-    r: &mut [u8],
-    script: &[u8],
-    at: usize,
-    answer: &[u8],
-    sum: u64,
-) -> Turn
-    requires { ⌜ at + 4 ≤ length (now script) ⌝ }
-{
-    let offset = wide(script[at + 1]) * 256 + wide(script[at + 2]);
-    let kind = script[at];
-    match kind {
-        0 => read(device, w, r, offset, sum),
-        1 => write(device, w, r, offset, script[at + 3], sum),
-        _ => respond(device, w, r, answer, sum),
-    }
-}
-
+// Four bytes each: 0 reads, 1 writes, anything else answers; the offset, high byte first; the byte written. The calls stand in the loop,
+// since a function between would copy the record once more.
 fn once(
     device: Device,
     w: &mut [u8],
@@ -80,9 +35,22 @@ fn once(
     while i < n {
         let at = 4 * i;
         i += 1;
-        let t = cycle(d, w, r, script, at, answer, total);
-        d = t.device;
-        total = t.sum;
+        let kind = script[at];
+        let offset = wide(script[at + 1]) * 256 + wide(script[at + 2]);
+        if kind == 0 {
+            let o = tis::read(d, w, r, offset);
+            d = o.device;
+            total = plus(total, o.byte);
+        } else if kind == 1 {
+            let o = tis::write(d, w, r, offset, script[at + 3]);
+            d = o.device;
+            total = plus(total, o.refusal);
+        } else {
+            let control = d.control;
+            let o = tis::respond(d, w, r, control.run, answer);
+            d = o.device;
+            total = plus(total, o.refusal);
+        }
     }
     Turn {
         device: d,
