@@ -6,8 +6,11 @@ fn main() {
     if env::var_os("CARGO_FEATURE_RATTLE").is_none() {
         return;
     }
+    // STATICLIB: other builds of them, as the survey of mutants makes
+    println!("cargo:rerun-if-env-changed=STATICLIB");
     let here = env::var("CARGO_MANIFEST_DIR").unwrap();
-    let folder = Path::new(&here).join("../target/staticlib");
+    let folder =
+        env::var("STATICLIB").map_or(Path::new(&here).join("../target/staticlib"), Into::into);
     println!("cargo:rerun-if-changed={}", folder.display());
     println!("cargo:rustc-link-search=native={}", folder.display());
 }

@@ -1,8 +1,10 @@
 //! Times bus cycles of the proved front beside the yardstick's, in turn, and prints the medians with their ratio.
 //!
 //! Both play the same script of cycles over and over on a device of their own, and both give a sum of what they read and were refused, which
-//! has to be the same. `bench_cycles once NAME proved|ordinary N` plays one script N times and prints the sum: a tracer's way in.
+//! has to be the same. `bench_cycles same` looks at the sums and times nothing. `bench_cycles once NAME proved|ordinary N` plays one script N
+//! times and prints the sum: a tracer's way in.
 use std::hint::black_box;
+use std::process;
 use std::time::Instant;
 use yardstick::Device;
 
@@ -164,13 +166,13 @@ fn median(mut times: Vec<f64>) -> f64 {
     times[times.len() / 2]
 }
 
+fn same(s: &Script) {
+    let (ours, theirs) = (proved(s, s.times), ordinary(s, s.times));
+    assert_eq!(ours, theirs, "{}: the two differ", s.name);
+}
+
 fn compare(s: &Script) {
-    assert_eq!(
-        proved(s, s.times),
-        ordinary(s, s.times),
-        "{}: the two differ",
-        s.name
-    );
+    same(s);
     let (mut ours, mut theirs) = (Vec::new(), Vec::new());
     for _ in 0..RUNS {
         ours.push(seconds(proved, s));
@@ -185,24 +187,38 @@ fn compare(s: &Script) {
     );
 }
 
-fn main() {
-    let words: Vec<String> = std::env::args().skip(1).collect();
-    if let [verb, name, side, n] = &words[..] {
-        assert_eq!(
-            verb, "once",
-            "usage: bench_cycles [once NAME proved|ordinary N]"
-        );
-        let script = scripts()
-            .into_iter()
-            .find(|s| s.name == name)
-            .expect("no such script");
-        let f = if side == "proved" { proved } else { ordinary };
-        println!("{}", f(&script, n.parse().expect("a number")));
-        return;
-    }
+fn compare_all() {
     println!(
         "Median of {RUNS} runs; nanoseconds each, and the ratio of times, proved to ordinary\n"
     );
     println!("| | proved, ns | Rust, ns | ratio |\n|---|---|---|---|");
     scripts().iter().for_each(compare);
+}
+
+/// The sum of one script, where the words name one.
+fn once(name: &str, side: &str, times: &str) -> Option<u64> {
+    let script = scripts().into_iter().find(|s| s.name == name)?;
+    let times = times.parse().ok()?;
+    match side {
+        "proved" => Some(proved(&script, times)),
+        "ordinary" => Some(ordinary(&script, times)),
+        _ => None,
+    }
+}
+
+fn main() {
+    let words: Vec<String> = std::env::args().skip(1).collect();
+    let words: Vec<&str> = words.iter().map(String::as_str).collect();
+    match words[..] {
+        [] => return compare_all(),
+        ["same"] => return scripts().iter().for_each(same),
+        ["once", name, side, times] => {
+            if let Some(sum) = once(name, side, times) {
+                return println!("{sum}");
+            }
+        }
+        _ => {}
+    }
+    eprintln!("usage: bench_cycles [same | once NAME proved|ordinary N]");
+    process::exit(2);
 }
