@@ -27,7 +27,7 @@ use Rattle.outcome.specs.Result.{Result, result}
 use Rattle.power.specs.Power.{poweredOn}
 use Rattle.judge.specs.Refusals.{busRefusal, lentRefusal}
 use Rattle.cycles.specs.Cycles.{busRead, readAt, busWrite, acceptedWrite, writtenAt}
-use Rattle.sheet.specs.Sheet.{Line, write, ignored, reads, refused, run, Check, fresh, afterRead, afterWrite, checks, gots, wants, Holds, head, free, send, p1, p2, p3, p4, p5, p6, p7, p8, p9, p10, p10′, p11, p12, Entry, Each, SheetHolds}
+use Rattle.sheet.specs.Sheet.{Line, write, ignored, reads, refused, run, Check, fresh, afterRead, afterWrite, checks, gots, wants, Holds, head, free, send, p1, p2, p3, p4, p5, p6, p7, p8, p9, p10, p10′, p11, p12, Each, SheetHolds}
 
 -- ---- lines played in two parts
 
@@ -91,7 +91,7 @@ receiving n =
     (replicate fifoLeast 0)
 
 abbrev firstPart : List Line
-firstPart = p7 .lines ++ send (head 0x00 0x0a) ++ (reads 0x0018 0x88 ∷ [])
+firstPart = p7 ++ send (head 0x00 0x0a) ++ (reads 0x0018 0x88 ∷ [])
 
 abbrev secondPart : List Line
 secondPart = (ignored 0x0018 0x20 ∷ []) ++ send (free 4) ++ (reads 0x0018 0x80 ∷ [])
@@ -104,14 +104,14 @@ parts-of-8 : Holds fresh firstPart × (played fresh firstPart ≡ receiving 6) �
 unfolding checks poweredOn busRead readAt busRefusal lentRefusal freshDevice lengthsAllowed inShape registerAt registerAbove accessBits registerByte phaseAfter busWrite acceptedWrite writtenAt ordinary writeEffect arbitrated hashStep launchAfter pcrsAfter access.commandOf requested released seizedBy accessWritten handedOver commandedEffect declared stsLow stsByte sts.commandOf stsWritten played
 parts-of-8 = (refl, refl, refl, refl, refl)
 
-p8-holds : Holds fresh (p8 .lines)
+p8-holds : Holds fresh p8
 p8-holds =
     holds-on fresh (receiving 6) firstPart (secondPart ++ thirdPart) (parts-of-8 .0) (parts-of-8 .1)
     (holds-on (receiving 6) (receiving 10) secondPart thirdPart (parts-of-8 .2) (parts-of-8 .3) (parts-of-8 .4))
 
 -- ---- the claim
 
-each-on : (a b : List Entry) → Each a → Each b → Each (a ++ b)
+each-on : (a b : List (List Line)) → Each a → Each b → Each (a ++ b)
 each-on [] b h k = k
 each-on (e ∷ a) b h k = (h .0, each-on a b (h .1) k)
 

@@ -27,18 +27,6 @@ pub data Line : Type 0 where
   -- the record's run number
   run : ℕ → Line
 
--- a row of the sheet: its number and its lines
-pub record Entry : Type 0 where
-  pub row : ℕ
-  pub lines : List Line
-
-abbrev pub entry : ℕ → List Line → Entry
-entry n l = record { row = n; lines = l }
-
--- a row that goes on from another
-abbrev pub after : Entry → ℕ → List Line → Entry
-after e n l = entry n (e .lines ++ l)
-
 -- ---- how the lines are played: each call is handed what the last one left
 
 -- "fresh": a power-on with FIFOs of 1,024 bytes, "not established", the identity bytes 0
@@ -95,32 +83,32 @@ Holds s l = gots (checks s l) ≡ wants (checks s l)
 -- ---- the sheet
 
 -- "P1 fresh: 0000 reads 81h."
-abbrev pub p1 : Entry
-p1 = entry 1 (reads 0x0000 0x81 ∷ [])
+abbrev pub p1 : List Line
+p1 = reads 0x0000 0x81 ∷ []
 
 -- "P2 write 02 at 0000: reads A1h."
-abbrev pub p2 : Entry
-p2 = entry 2 (write 0x0000 0x02 ∷ reads 0x0000 0xa1 ∷ [])
+abbrev pub p2 : List Line
+p2 = write 0x0000 0x02 ∷ reads 0x0000 0xa1 ∷ []
 
 -- "P3 then 02 at 2000: 2000 reads 87h, 0000 reads A5h."
-abbrev pub p3 : Entry
-p3 = after p2 3 (write 0x2000 0x02 ∷ reads 0x2000 0x87 ∷ reads 0x0000 0xa5 ∷ [])
+abbrev pub p3 : List Line
+p3 = p2 ++ (write 0x2000 0x02 ∷ reads 0x2000 0x87 ∷ reads 0x0000 0xa5 ∷ [])
 
 -- "P4 then 02 at 3000 and 20 at 0000: 3000 reads A5h."
-abbrev pub p4 : Entry
-p4 = after p3 4 (write 0x3000 0x02 ∷ write 0x0000 0x20 ∷ reads 0x3000 0xa5 ∷ [])
+abbrev pub p4 : List Line
+p4 = p3 ++ (write 0x3000 0x02 ∷ write 0x0000 0x20 ∷ reads 0x3000 0xa5 ∷ [])
 
 -- "P5 08 at 2000: nothing."
-abbrev pub p5 : Entry
-p5 = after p4 5 (ignored 0x2000 0x08 ∷ [])
+abbrev pub p5 : List Line
+p5 = p4 ++ (ignored 0x2000 0x08 ∷ [])
 
 -- "P6 08 at 4000: 3000 reads 95h."
-abbrev pub p6 : Entry
-p6 = after p5 6 (write 0x4000 0x08 ∷ reads 0x3000 0x95 ∷ [])
+abbrev pub p6 : List Line
+p6 = p5 ++ (write 0x4000 0x08 ∷ reads 0x3000 0x95 ∷ [])
 
 -- "P7 fresh, 02 at 0000, 40 at 0018: STS C0h, 0019 reads 40h."
-abbrev pub p7 : Entry
-p7 = entry 7 (write 0x0000 0x02 ∷ write 0x0018 0x40 ∷ reads 0x0018 0xc0 ∷ reads 0x0019 0x40 ∷ [])
+abbrev pub p7 : List Line
+p7 = write 0x0000 0x02 ∷ write 0x0018 0x40 ∷ reads 0x0018 0xc0 ∷ reads 0x0019 0x40 ∷ []
 
 -- a command's first six bytes, of which the last two are the size's; bytes that the sheet leaves free are 00h
 abbrev pub head : ℕ → ℕ → List ℕ
@@ -143,44 +131,44 @@ abbrev pub burst : ℕ → List Line
 burst n = reads 0x0019 n ∷ reads 0x001a 0 ∷ []
 
 -- "P8 after 00 C1 00 00 00 0A: 88h, go ignored; after ten bytes 80h, an eleventh ignored; go: run 1."
-abbrev pub p8 : Entry
+abbrev pub p8 : List Line
 p8 =
-    after p7 8
-    (send (head 0x00 0x0a) ++ (reads 0x0018 0x88 ∷ ignored 0x0018 0x20 ∷ []) ++ send (free 4)
+    p7
+    ++ (send (head 0x00 0x0a) ++ (reads 0x0018 0x88 ∷ ignored 0x0018 0x20 ∷ []) ++ send (free 4)
     ++ (reads 0x0018 0x80 ∷ ignored 0x0024 0xff ∷ write 0x0018 0x20 ∷ run 1 ∷ []))
 
 -- "P9 size 9: nine bytes, go, STS 90h; ten bytes read, then FFh and 80h; retry, 90h."
-abbrev pub p9 : Entry
+abbrev pub p9 : List Line
 p9 =
-    after p7 9
-    (send (head 0x00 0x09) ++ send (free 3) ++ (write 0x0018 0x20 ∷ reads 0x0018 0x90 ∷ []) ++ receive badSize
+    p7
+    ++ (send (head 0x00 0x09) ++ send (free 3) ++ (write 0x0018 0x20 ∷ reads 0x0018 0x90 ∷ []) ++ receive badSize
     ++ (reads 0x0024 0xff ∷ reads 0x0018 0x80 ∷ write 0x0018 0x02 ∷ reads 0x0018 0x90 ∷ []))
 
 -- "P10 size 1,024 runs; .."
-abbrev pub p10 : Entry
-p10 = after p7 10 (send (head 0x04 0x00) ++ send (free 1018) ++ (write 0x0018 0x20 ∷ run 1 ∷ []))
+abbrev pub p10 : List Line
+p10 = p7 ++ (send (head 0x04 0x00) ++ send (free 1018) ++ (write 0x0018 0x20 ∷ run 1 ∷ []))
 
 -- ".. 1,025 is answered 19h after 1,024 bytes."
-abbrev pub p10′ : Entry
-p10′ = after p7 10 (send (head 0x04 0x01) ++ send (free 1018) ++ (write 0x0018 0x20 ∷ run 0 ∷ []) ++ receive badSize)
+abbrev pub p10′ : List Line
+p10′ = p7 ++ (send (head 0x04 0x01) ++ send (free 1018) ++ (write 0x0018 0x20 ∷ run 0 ∷ []) ++ receive badSize)
 
 -- "P11 size 1,024, burst at 960 received: 64; at 961: 63; at 1,023: 1."
-abbrev pub p11 : Entry
+abbrev pub p11 : List Line
 p11 =
-    after p7 11
-    (send (head 0x04 0x00) ++ send (free 954) ++ burst 64 ++ send (free 1) ++ burst 63 ++ send (free 62) ++ burst 1)
+    p7
+    ++ (send (head 0x04 0x00) ++ send (free 954) ++ burst 64 ++ send (free 1) ++ burst 63 ++ send (free 62) ++ burst 1)
 
 -- "P12 4FFFh reads FFh; 5000h is refused, 1."
-abbrev pub p12 : Entry
-p12 = entry 12 (reads 0x4fff 0xff ∷ refused 0x5000 offset ∷ [])
+abbrev pub p12 : List Line
+p12 = reads 0x4fff 0xff ∷ refused 0x5000 offset ∷ []
 
-abbrev pub sheet : List Entry
+abbrev pub sheet : List (List Line)
 sheet = p1 ∷ p2 ∷ p3 ∷ p4 ∷ p5 ∷ p6 ∷ p7 ∷ p8 ∷ p9 ∷ p10 ∷ p10′ ∷ p11 ∷ p12 ∷ []
 
 -- the claim: every entry holds, from a fresh power-on
-abbrev pub Each : List Entry → Type 0
+abbrev pub Each : List (List Line) → Type 0
 Each [] = Unit
-Each (e ∷ l) = Holds fresh (e .lines) × Each l
+Each (e ∷ l) = Holds fresh e × Each l
 
 abbrev pub SheetHolds : Type 0
 SheetHolds = Each sheet
