@@ -27,7 +27,7 @@ use Rattle.outcome.specs.Result.{Result, result}
 use Rattle.power.specs.Power.{poweredOn}
 use Rattle.judge.specs.Refusals.{busRefusal, lentRefusal}
 use Rattle.cycles.specs.Cycles.{busRead, readAt, busWrite, acceptedWrite, writtenAt}
-use Rattle.sheet.specs.Sheet.{Line, write, ignored, reads, refused, run, Check, fresh, afterRead, afterWrite, checks, gots, wants, Holds, head, free, send, p1, p2, p3, p4, p5, p6, p7, p8, p9, p10, p10′, p11, p12, Each, SheetHolds}
+use Rattle.sheet.specs.Sheet.{Line, write, ignored, reads, refused, run, Check, fresh, afterRead, afterWrite, checks, gots, wants, Holds, head, free, send, complete, p1, p2, p3, p4, p5, p6, p7, p8, p9, p10, p10′, p11, p12, Each, SheetHolds}
 
 -- ---- lines played in two parts
 
@@ -94,7 +94,7 @@ abbrev firstPart : List Line
 firstPart = p7 ++ send (head 0x00 0x0a) ++ (reads 0x0018 0x88 ∷ [])
 
 abbrev secondPart : List Line
-secondPart = (ignored 0x0018 0x20 ∷ []) ++ send (free 4) ++ (reads 0x0018 0x80 ∷ [])
+secondPart = (ignored 0x0018 0x20 ∷ []) ++ complete 3
 
 abbrev thirdPart : List Line
 thirdPart = ignored 0x0024 0xff ∷ write 0x0018 0x20 ∷ run 1 ∷ []

@@ -126,6 +126,10 @@ abbrev pub receive : List ℕ → List Line
 receive [] = []
 receive (v ∷ b) = reads 0x0024 v ∷ receive b
 
+-- the rest of a command: n free bytes, after which more is expected, and the last one, after which it is not
+abbrev pub complete : ℕ → List Line
+complete n = send (free n) ++ (reads 0x0018 0x88 ∷ []) ++ send (free 1) ++ (reads 0x0018 0x80 ∷ [])
+
 -- burstCount, below 256
 abbrev pub burst : ℕ → List Line
 burst n = reads 0x0019 n ∷ reads 0x001a 0 ∷ []
@@ -134,23 +138,23 @@ burst n = reads 0x0019 n ∷ reads 0x001a 0 ∷ []
 abbrev pub p8 : List Line
 p8 =
     p7
-    ++ (send (head 0x00 0x0a) ++ (reads 0x0018 0x88 ∷ ignored 0x0018 0x20 ∷ []) ++ send (free 4)
-    ++ (reads 0x0018 0x80 ∷ ignored 0x0024 0xff ∷ write 0x0018 0x20 ∷ run 1 ∷ []))
+    ++ (send (head 0x00 0x0a) ++ (reads 0x0018 0x88 ∷ ignored 0x0018 0x20 ∷ []) ++ complete 3
+    ++ (ignored 0x0024 0xff ∷ write 0x0018 0x20 ∷ run 1 ∷ []))
 
 -- "P9 size 9: nine bytes, go, STS 90h; ten bytes read, then FFh and 80h; retry, 90h."
 abbrev pub p9 : List Line
 p9 =
     p7
-    ++ (send (head 0x00 0x09) ++ send (free 3) ++ (write 0x0018 0x20 ∷ reads 0x0018 0x90 ∷ []) ++ receive badSize
+    ++ (send (head 0x00 0x09) ++ complete 2 ++ (write 0x0018 0x20 ∷ reads 0x0018 0x90 ∷ []) ++ receive badSize
     ++ (reads 0x0024 0xff ∷ reads 0x0018 0x80 ∷ write 0x0018 0x02 ∷ reads 0x0018 0x90 ∷ []))
 
 -- "P10 size 1,024 runs; .."
 abbrev pub p10 : List Line
-p10 = p7 ++ (send (head 0x04 0x00) ++ send (free 1018) ++ (write 0x0018 0x20 ∷ run 1 ∷ []))
+p10 = p7 ++ (send (head 0x04 0x00) ++ complete 1017 ++ (write 0x0018 0x20 ∷ run 1 ∷ []))
 
 -- ".. 1,025 is answered 19h after 1,024 bytes."
 abbrev pub p10′ : List Line
-p10′ = p7 ++ (send (head 0x04 0x01) ++ send (free 1018) ++ (write 0x0018 0x20 ∷ run 0 ∷ []) ++ receive badSize)
+p10′ = p7 ++ (send (head 0x04 0x01) ++ complete 1017 ++ (write 0x0018 0x20 ∷ run 0 ∷ []) ++ receive badSize)
 
 -- "P11 size 1,024, burst at 960 received: 64; at 961: 63; at 1,023: 1."
 abbrev pub p11 : List Line
