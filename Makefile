@@ -14,7 +14,8 @@ test:
 	tools/compare-calls
 	rt ci
 
-# Plays the bench sheet and the SHA-1 vectors, each line with what is expected and what came.
+# Plays the bench sheet and the SHA-1 vectors, each line with what is expected and what came. The sheet's lines 'wrong on purpose' show that
+# a difference is told.
 run:
 	@echo 'proving and building bench_sheet and sha1_vectors (about five minutes the first time)'
 	@mkdir -p target

@@ -13,6 +13,7 @@ use sheet_lines::results::show_power_on;
 use sheet_lines::results::show_read;
 use sheet_lines::results::show_run;
 use sheet_lines::results::show_text;
+use sheet_lines::results::show_unknown;
 use sheet_lines::results::show_write;
 
 // What is left after many writes, and the bits of all their refusal numbers: 0 where each was accepted.
@@ -110,5 +111,11 @@ pub fn pcr(device: Device, s: Step) -> Device {
     let o = tis::pcr_value(device, PcrIndex(s.low));
     let value = o.value;
     show_pcr(s, sha1_text::hex(value), o.refusal);
+    device
+}
+
+// A line with another letter is told and does nothing.
+pub fn unknown(device: Device, s: Step) -> Device {
+    show_unknown(s);
     device
 }

@@ -5,6 +5,7 @@ use crate::calls::read;
 use crate::calls::respond;
 use crate::calls::run;
 use crate::calls::text;
+use crate::calls::unknown;
 use crate::calls::write;
 use record::Device;
 use sheet_lines::line::Step;
@@ -20,7 +21,7 @@ fn take(device: Device, w: &mut [u8], r: &mut [u8], s: Step) -> Device {
         b'e' => respond(device, w, r, s),
         b'n' => run(device, s),
         b'v' => pcr(device, s),
-        _ => device,
+        _ => unknown(device, s),
     }
 }
 
@@ -48,5 +49,9 @@ pub fn play(w: &mut [u8], r: &mut [u8], sheet: &[u8]) {
             join(&mut line, at, c);
             at += 1;
         }
+    }
+    // the last line may want its end
+    if at != 0 {
+        take(d, w, r, parsed(line));
     }
 }

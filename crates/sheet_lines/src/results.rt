@@ -73,3 +73,8 @@ pub fn show_pcr(s: Step, got: [u8; 40], refusal: u8) {
     let expected = s.rest;
     compare_texts(expected, got, refusal == 0);
 }
+
+pub fn show_unknown(s: Step) {
+    named(s);
+    say(b"is not understood\n");
+}
