@@ -24,6 +24,7 @@ extern "C" {
 }
 
 /// Four bytes each: 0 reads, 1 writes, 2 answers; the offset, high byte first; the byte written.
+#[derive(Clone)]
 struct Script {
     name: &'static str,
     cycles: Vec<u8>,
@@ -166,8 +167,21 @@ fn median(mut times: Vec<f64>) -> f64 {
     times[times.len() / 2]
 }
 
+/// The script with reads behind it that show what it left: writes alone show only that they were accepted.
+fn probed(s: &Script) -> Script {
+    const SHOWN: [u16; 6] = [0x000, 0x008, 0x010, 0x018, 0x019, 0x024];
+    let mut probe = s.clone();
+    for page in 0..5 {
+        for within in SHOWN {
+            probe = probe.read(page << 12 | within, 1);
+        }
+    }
+    probe
+}
+
 fn same(s: &Script) {
-    let (ours, theirs) = (proved(s, s.times), ordinary(s, s.times));
+    let s = probed(s);
+    let (ours, theirs) = (proved(&s, s.times), ordinary(&s, s.times));
     assert_eq!(ours, theirs, "{}: the two differ", s.name);
 }
 
