@@ -11,6 +11,7 @@ use record::Device;
 use sheet_lines::line::Step;
 use sheet_lines::line::parsed;
 
+// A line that has no letter is a heading, or empty: nothing is done.
 fn take(device: Device, w: &mut [u8], r: &mut [u8], s: Step) -> Device {
     let kind = s.kind;
     match kind {
@@ -21,6 +22,7 @@ fn take(device: Device, w: &mut [u8], r: &mut [u8], s: Step) -> Device {
         b'e' => respond(device, w, r, s),
         b'n' => run(device, s),
         b'v' => pcr(device, s),
+        b' ' => device,
         _ => unknown(device, s),
     }
 }
@@ -50,8 +52,6 @@ pub fn play(w: &mut [u8], r: &mut [u8], sheet: &[u8]) {
             at += 1;
         }
     }
-    // the last line may want its end
-    if at != 0 {
-        take(d, w, r, parsed(line));
-    }
+    // the last line may lack its end
+    take(d, w, r, parsed(line));
 }

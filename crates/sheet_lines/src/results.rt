@@ -65,7 +65,7 @@ pub fn show_answer(s: Step, refusal: u8) {
 pub fn show_run(s: Step, run: u32) {
     named(s);
     say(b"                              run number");
-    compare(s.byte, (run % 256) as u8, run < 256);
+    compare(s.byte, (run % 256) as u8, run == s.byte as u32);
 }
 
 pub fn show_pcr(s: Step, got: [u8; 40], refusal: u8) {
