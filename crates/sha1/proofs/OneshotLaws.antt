@@ -1,4 +1,4 @@
--- Bytes that are copied into an array of zeros, and what comes of it for a whole message.
+-- What a whole message comes to, and two values in forty bytes.
 use mathlib.Core.Path.{_≡_, refl, sym, ap, ap₂, _∙_}
 use mathlib.Core.List.{List, _++_, append-nil}
 use Prim.Native.Nat.{ℕ, _+_, _-_, _*_, _/_, _%_, _≤_}
@@ -8,29 +8,18 @@ use lib.Seq.{take-all, take-at, take-length, drop-at}
 use borrow.Rule.Slice.PartMut.{midOf, putMid}
 use Rattle.sha1_block.specs.Sha1.{hashed, sha1}
 use Rattle.sha1.specs.Stream.{finishOf}
-use Rattle.sha1.proofs.StreamLaws.{rest, length-rest, digest-of}
-
--- what is left of k zeros behind the first n
-zeros-left : (k n : ℕ) → n ≤ k → drop n (replicate {A = ℕ} k 0) ≡ replicate (k - n) 0
-zeros-left k n l =
-    let e : n + (k - n) ≡ k = omega arith in
-    ap (λ (j : ℕ). drop n (replicate j 0)) (sym e) ∙ ap (λ (z : List ℕ). drop n z) (sym (replicate-append-replicate n (k - n) 0)) ∙ drop-at (replicate n 0) (replicate (k - n) 0) n (length-replicate n 0)
+use Rattle.sha1.proofs.StreamLaws.{rest, length-rest, digest-from}
 
 -- the slice behind the whole blocks is the rest
 rest-is : (m : List ℕ) → take (length m - 64 * (length m / 64)) (rest m) ≡ rest m
 rest-is m = take-all (length m - 64 * (length m / 64)) (rest m) (omega (arith, length-drop (64 * (length m / 64)) m))
 
 -- the hash value after the whole blocks, and the rest in the tail, finish to SHA-1
-pub at-once : (m h t r x : List ℕ) → h ≡ hashed m (length m / 64) → x ≡ take (length m - 64 * (length m / 64)) (rest m) → t ≡ take (length x) x ++ drop (length x) (replicate 64 0)
-    → r ≡ finishOf (record { h = h; tail = t; count = length m }) → r ≡ sha1 m
-at-once m h t r x p i q e =
+pub at-once : (m h r x : List ℕ) → h ≡ hashed m (length m / 64) → x ≡ take (length m - 64 * (length m / 64)) (rest m)
+    → r ≡ finishOf (record { h = h; tail = x; count = length m }) → r ≡ sha1 m
+at-once m h r x p i e =
     let f : x ≡ rest m = i ∙ rest-is m in
-    let n : length x ≡ length m % 64 = ap length f ∙ length-rest m in
-    e ∙ digest-of (record { h = h; tail = t; count = length m }) m (record {
-      h = p;
-      tail = q ∙ ap₂ (λ (a b : List ℕ). a ++ b) (take-length x ∙ f) (zeros-left 64 (length x) (omega arith) ∙ ap (λ (k : ℕ). replicate (64 - k) 0) n);
-      count = refl;
-    })
+    e ∙ digest-from (record { h = h; tail = x; count = length m }) m p (rw f (take-all (length m % 64) (rest m) (omega (arith, length-rest m)))) refl
 
 -- twenty bytes, and twenty more in the place of the last twenty, fill forty
 module _ (p d x z : List ℕ) (l : length p ≡ 20) (k : length d ≡ 20) (e : x ≡ take (length p) p ++ drop (length p) (replicate 40 0)) (f : z ≡ take (length d) d ++ drop (length d) (midOf 20 20 x)) where

@@ -11,7 +11,7 @@ use lib.Dec.{ltb, eqb}
 use borrow.Author.Tests.{eqb-true, eqb-false, ltb-true, ltb-false}
 use Rattle.sha1.specs.declared.Stream.{Stream}
 use Rattle.sha1_block.specs.Sha1.{compressOf, hashed, zeros, pad, padding, lengthField, digestOf, sha1}
-use Rattle.sha1.specs.Stream.{begun, joinOf, joinAll, withLength, finishOf}
+use Rattle.sha1.specs.Stream.{begun, joinOf, joinAll, withLength, marked, finishOf}
 
 -- the bytes behind the whole blocks
 abbrev pub rest : List ℕ → List ℕ
@@ -118,10 +118,10 @@ blocks-padded : (m : List ℕ) → length (pad m) / 64 ≡ (length m + 72) / 64
 unfolding pad
 blocks-padded m = omega (arith, length-append m (padding (length m)), length-append (replicate ((119 - length m % 64) % 64) 0) (lengthField (length m * 8)), length-replicate {A = ℕ} ((119 - length m % 64) % 64) 0)
 
--- finishing a state that stands for m gives SHA-1 of m
-pub digest-of : (s : Stream) (m : List ℕ) → Holds s m → finishOf s ≡ sha1 m
-unfolding finishOf sha1 pad hashed
-digest-of s m r = go (ltb (s .count % 64) 56) refl ∙ ap (λ (k : ℕ). digestOf (hashed (pad m) k)) (sym (blocks-padded m))
+-- finishing the hash value after the whole blocks of m, with the rest of m in front of the tail, gives SHA-1 of m
+pub digest-from : (s : Stream) (m : List ℕ) → s .h ≡ hashed m (length m / 64) → take (s .count % 64) (s .tail) ≡ rest m → s .count ≡ length m → finishOf s ≡ sha1 m
+unfolding finishOf marked sha1 pad hashed
+digest-from s m h w n = go (ltb (s .count % 64) 56) refl ∙ ap (λ (k : ℕ). digestOf (hashed (pad m) k)) (sym (blocks-padded m))
   where
     q : ℕ
     q = length m / 64
@@ -133,20 +133,23 @@ digest-of s m r = go (ltb (s .count % 64) 56) refl ∙ ap (λ (k : ℕ). digestO
     p = rest m ++ (0x80 ∷ [])
 
     len-p : length p ≡ j + 1
-    len-p = length-behind s m 0x80 r
+    len-p = length-append (rest m) (0x80 ∷ []) ∙ ap (λ (k : ℕ). k + 1) (length-rest m)
 
     at-n : s .count % 64 ≡ j
-    at-n = at-count s m 0x80 r
+    at-n = ap (λ (k : ℕ). k % 64) n
+
+    mark : marked (s .tail) (s .count % 64) ≡ p ++ replicate (63 - j) 0
+    mark = rw (w, at-n) (sym (append-assoc (rest m) (0x80 ∷ []) (replicate (63 - j) 0)))
 
     front : hashed (pad m) q ≡ s .h
-    front = hashed-front m (padding (length m)) q (omega arith) ∙ sym (r .h)
+    front = hashed-front m (padding (length m)) q (omega arith) ∙ sym h
 
     -- what stands behind the whole blocks
     behind : drop (64 * q) (pad m) ≡ p ++ (replicate ((119 - j) % 64) 0 ++ lengthField (length m * 8))
     behind = rest-append m (padding (length m)) ∙ sym (append-assoc (rest m) (0x80 ∷ []) (replicate ((119 - j) % 64) 0 ++ lengthField (length m * 8)))
 
     go : (t : Bool) → ltb (s .count % 64) 56 ≡ t
-        → cond t (digestOf (compressOf (s .h) (withLength (set (s .tail) (s .count % 64) 0x80) (s .count)))) (digestOf (compressOf (compressOf (s .h) (set (s .tail) (s .count % 64) 0x80)) (withLength (replicate 64 0) (s .count))))
+        → cond t (digestOf (compressOf (s .h) (withLength (marked (s .tail) (s .count % 64)) (s .count)))) (digestOf (compressOf (compressOf (s .h) (marked (s .tail) (s .count % 64))) (withLength (replicate 64 0) (s .count))))
         ≡ digestOf (hashed (pad m) ((length m + 72) / 64))
     go true e =
         let f : s .count % 64 < 56 = ltb-true (s .count % 64) 56 e in
@@ -162,8 +165,8 @@ digest-of s m r = go (ltb (s .count % 64) 56) refl ∙ ap (λ (k : ℕ). digestO
           z,
           b,
           take-all 64 ((p ++ replicate (55 - j) 0) ++ lengthField (length m * 8)) (omega arith),
-          put s m 0x80 r,
-          r .count,
+          mark,
+          n,
           field-at-end p (55 - j) (63 - j) (lengthField (length m * 8)) (omega (arith, len-p, at-n)) refl (omega (arith, at-n)),
         ) refl
     go false e =
@@ -180,7 +183,13 @@ digest-of s m r = go (ltb (s .count % 64) 56) refl ∙ ap (λ (k : ℕ). digestO
         let g : drop (64 * q) (pad m) ≡ c ++ d = behind ∙ ap (λ (k : ℕ). p ++ (replicate k 0 ++ lengthField (length m * 8))) z ∙ b in
         let u : drop (64 * suc q) (pad m) ≡ d =
         ap (λ (k : ℕ). drop k (pad m)) (mul-suc 64 q) ∙ sym (drop-drop 64 (64 * q) (pad m)) ∙ ap (λ (x : List ℕ). drop 64 x) g ∙ drop-at c d 64 l in
-        rw (i, u, front, g, take-at c d 64 l, put s m 0x80 r, r .count) refl
+        rw (i, u, front, g, take-at c d 64 l, mark, n) refl
+
+-- finishing a state that stands for m gives SHA-1 of m
+pub digest-of : (s : Stream) (m : List ℕ) → Holds s m → finishOf s ≡ sha1 m
+digest-of s m r =
+    let front : take (s .count % 64) (s .tail) ≡ rest m = rw (r .tail, r .count) (take-at (rest m) (replicate (64 - length m % 64) 0) (length m % 64) (length-rest m)) in
+    digest-from s m (r .h) front (r .count)
 
 -- a stream that is begun and that the bytes of m join, each in turn, gives SHA-1 of m
 pub digest : (m : List ℕ) → finishOf (joinAll begun m) ≡ sha1 m

@@ -1,8 +1,8 @@
 -- A message that is hashed a byte at a time: what the record keeps of it, how a byte joins, and what finishing gives.
 use mathlib.Core.Bool.{cond}
-use mathlib.Core.List.{List, [], _∷_}
-use Prim.Native.Nat.{ℕ, _+_, _*_, _%_}
-use lib.ListN.{set, replicate}
+use mathlib.Core.List.{List, [], _∷_, _++_}
+use Prim.Native.Nat.{ℕ, _+_, _-_, _*_, _%_}
+use lib.ListN.{set, take, replicate}
 use lib.Seq.{sets}
 use lib.Dec.{ltb, eqb}
 use Rattle.sha1.specs.declared.Stream.{Stream}
@@ -34,9 +34,13 @@ joinAll s (b ∷ m) = joinAll (joinOf s b) m
 abbrev pub withLength : List ℕ → ℕ → List ℕ
 withLength block n = sets block 56 (lengthField (n * 8))
 
--- 80h goes behind the tail; the length goes into the same block if eight bytes are left there, and else into one more
+-- the first n bytes of the tail, 80h behind them, and 00h to the end of the block: what the tail has behind those bytes doesn't count
+unfoldable pub marked : List ℕ → ℕ → List ℕ
+marked tail n = take n tail ++ (0x80 ∷ replicate (63 - n) 0)
+
+-- the length goes into the marked block if eight bytes are left there, and else into one more
 unfoldable pub finishOf : Stream → List ℕ
 finishOf s =
     cond (ltb (s .count % 64) 56)
-    (digestOf (compressOf (s .h) (withLength (set (s .tail) (s .count % 64) 0x80) (s .count))))
-    (digestOf (compressOf (compressOf (s .h) (set (s .tail) (s .count % 64) 0x80)) (withLength (replicate 64 0) (s .count))))
+    (digestOf (compressOf (s .h) (withLength (marked (s .tail) (s .count % 64)) (s .count))))
+    (digestOf (compressOf (compressOf (s .h) (marked (s .tail) (s .count % 64))) (withLength (replicate 64 0) (s .count))))

@@ -29,9 +29,7 @@ pub fn hash(m: &[u8]) -> [u8; 20]
     ensures { λ r. ⌜ r ≡ sha1 (now (m .entry)) ⌝ }
 {
     let whole = 64 * (m.len() / 64);
-    let mut tail = [0u8; 64];
-    bytes::copy(&m[whole..], &mut tail);
-    close(blocks(m), tail, m.len() as u64)
+    close(blocks(m), &m[whole..], m.len() as u64)
 }
 
 // What a PCR becomes when a digest extends it: SHA-1 of the 20 bytes of the one and the 20 of the other.

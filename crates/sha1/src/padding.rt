@@ -1,8 +1,9 @@
 // The end of a message: its padding, its last block or two, and the digest.
 ghost use mathlib.Core.Path.{_≡_};
-ghost use Prim.Native.Nat.{_<_, _^_};
+ghost use Prim.Native.Nat.{_<_, _≤_, _^_, _%_};
+ghost use lib.ListN.{length};
 ghost use Rattle.sha1_block.specs.Sha1.{digestOf};
-ghost use Rattle.sha1.specs.Stream.{finishOf, withLength};
+ghost use Rattle.sha1.specs.Stream.{finishOf, marked, withLength};
 use sha1_block::block::compress;
 use sha1_block::word::store;
 
@@ -31,14 +32,26 @@ fn with_length(block: [u8; 64], n: u64) -> [u8; 64]
     t
 }
 
-// The digest of a message of n bytes, from the hash value after its whole blocks and the bytes behind them.
-pub fn close(h: [u32; 5], tail: [u8; 64], n: u64) -> [u8; 20]
+// The first n bytes of the tail, and the mark behind them.
+fn mark(tail: &[u8], n: usize) -> [u8; 64]
+    requires { ⌜ n < 64 ⌝ }
+    requires { ⌜ n ≤ length (now tail) ⌝ }
+    ensures { λ r. ⌜ r ≡ marked (now (tail .entry)) n ⌝ }
+{
+    let mut t = [0u8; 64];
+    bytes::copy(&tail[..n], &mut t);
+    t[n] = 0x80;
+    t
+}
+
+// The digest of a message of n bytes, from the hash value after its whole blocks and a tail that begins with the bytes behind them.
+pub fn close(h: [u32; 5], tail: &[u8], n: u64) -> [u8; 20]
     requires { ⌜ n < 2 ^ 61 ⌝ }
-    ensures { λ r. ⌜ r ≡ finishOf (record { h = h; tail = tail; count = n }) ⌝ }
+    requires { ⌜ n % 64 ≤ length (now tail) ⌝ }
+    ensures { λ r. ⌜ r ≡ finishOf (record { h = h; tail = now (tail .entry); count = n }) ⌝ }
 {
     let at = (n % 64) as usize;
-    let mut t = tail;
-    t[at] = 0x80;
+    let t = mark(tail, at);
     if at < 56 {
         let last = with_length(t, n);
         return digest(compress(h, &last, 0));

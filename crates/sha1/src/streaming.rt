@@ -64,7 +64,5 @@ pub fn join(s: Stream, b: u8) -> Stream
 pub fn finish(s: Stream) -> [u8; 20]
     ensures { λ r. ⌜ r ≡ finishOf s ⌝ }
 {
-    let h = s.h;
-    let tail = s.tail;
-    close(h, tail, s.count as u64)
+    close(s.h, &s.tail, s.count as u64)
 }

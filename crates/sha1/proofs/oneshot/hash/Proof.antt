@@ -6,10 +6,10 @@ use Rattle.sha1.proofs.oneshot.hash.Statement.{statement}
 use Rattle.sha1.proofs.oneshot.hash.Tie as tie
 
 returns : tie.Need-returns
-returns c = at-once _ _ _ _ _ (c .before .blocks2 .ensures) refl (c .before .before .before .copy .ensures .1) (c .close .ensures)
+returns c = at-once _ _ _ _ (c .before .before .blocks2 .ensures) refl (c .close .ensures)
 
 pub hash-spec : {M : Type 1} → statement M
 hash-spec =
     tie.close
-    (tie.spec (λ c. search needs) (λ c. search needs) (λ c. search needs) (λ c. search needs)
-    (λ c. search needs) (λ c κs. search needs) (λ c κs. search needs) (λ c κs. search needs) returns)
+    (tie.spec (λ c. search needs) (λ c κs. search needs) (λ c. search needs) (λ c. search needs)
+    (λ c. search needs) (λ c κs. search needs) returns)

@@ -2,31 +2,28 @@
 use mathlib.Core.Path.{_≡_, refl}
 use mathlib.Core.List.{List}
 use Prim.Native.Nat.{ℕ, _%_, _≤_, _<_}
-use lib.ListN.{length, set, replicate, length-set}
+use lib.ListN.{length, replicate}
 use borrow.Author.Tests.{lt-ltb, le-ltb}
 use Rattle.sha1.specs.declared.Stream.{Stream}
 use Rattle.sha1_block.specs.Sha1.{compressOf, digestOf, blockFrom}
-use Rattle.sha1.specs.Stream.{finishOf, withLength}
+use Rattle.sha1.specs.Stream.{finishOf, marked, withLength}
 use Rattle.sha1_block.proofs.BlockLaws.{whole}
 use borrow.Author.Needs.{needs}
 use Rattle.sha1.proofs.padding.close.Statement.{statement}
 use Rattle.sha1.proofs.padding.close.Tie as tie
 
-one-block : (s : Stream) (t g r : List ℕ) → s .count % 64 < 56 → t ≡ withLength (set (s .tail) (s .count % 64) 0x80) (s .count) → length t ≡ 64
+one-block : (s : Stream) (b t g r : List ℕ) → s .count % 64 < 56 → b ≡ marked (s .tail) (s .count % 64) → t ≡ withLength b (s .count) → length t ≡ 64
     → g ≡ compressOf (s .h) (blockFrom t 0) → r ≡ digestOf g → r ≡ finishOf s
 unfolding finishOf
-one-block s t g r l e n p q = simp (lt-ltb _ _ l) (rw (q, p, whole t n, e) refl)
+one-block s b t g r l m e n p q = simp (lt-ltb _ _ l) (rw (q, p, whole t n, e, m) refl)
 
-two-blocks : (s : Stream) (t g k r : List ℕ) → 56 ≤ s .count % 64 → length (set (s .tail) (s .count % 64) 0x80) ≡ 64 → g ≡ compressOf (s .h) (blockFrom (set (s .tail) (s .count % 64) 0x80) 0)
+two-blocks : (s : Stream) (b t g k r : List ℕ) → 56 ≤ s .count % 64 → b ≡ marked (s .tail) (s .count % 64) → length b ≡ 64 → g ≡ compressOf (s .h) (blockFrom b 0)
     → t ≡ withLength (replicate 64 0) (s .count) → length t ≡ 64 → k ≡ compressOf g (blockFrom t 0) → r ≡ digestOf k → r ≡ finishOf s
 unfolding finishOf
-two-blocks s t g k r l n p e n′ p′ q = simp (le-ltb _ _ l) (rw (q, p′, whole t n′, e, p, whole _ n) refl)
+two-blocks s b t g k r l m n p e n′ p′ q = simp (le-ltb _ _ l) (rw (q, p′, whole t n′, e, p, whole b n, m) refl)
 
 returns : tie.Need-returns
 returns c = search (needs, one-block)
-
-compress-requires-2 : tie.Need-compress-requires-2
-compress-requires-2 c κs = simp length-set (search needs)
 
 returns-2 : tie.Need-returns-2
 returns-2 c = search (needs, two-blocks)
@@ -34,6 +31,6 @@ returns-2 c = search (needs, two-blocks)
 pub close-spec : {M : Type 1} → statement M
 close-spec =
     tie.close
-    (tie.spec (λ c. search needs) (λ c κs. search needs) (λ c. search needs) (λ c κs. search needs)
-    (λ c κs. search needs) returns (λ c. search needs) compress-requires-2 (λ c κs. search needs)
+    (tie.spec (λ c κs. search needs) (λ c κs. search needs) (λ c. search needs) (λ c κs. search needs)
+    (λ c κs. search needs) returns (λ c. search needs) (λ c κs. search needs) (λ c κs. search needs)
     (λ c. search needs) (λ c κs. search needs) (λ c κs. search needs) returns-2)
