@@ -9,12 +9,11 @@ use lib.ListN.{take, drop}
 use denote.Ref.{now}
 use Rattle.arbiter.specs.Rules.{waits}
 use Rattle.waiting.specs.Model.{Call, powerOn, Model, Holder, free, held, Event, access, requestUse, eventOf, highest, step, fresh}
-use Rattle.waiting.specs.Waits.{events, run, modelAfter, handsOver, handovers, isRequest, isRelease, isRestart, tally, during, bound}
+use Rattle.waiting.specs.Waits.{events, run, modelAfter, handsOver, handovers, isRelease, isRestart, tally, written, beginnings, during, bound}
 use Rattle.waiting.specs.Claims as claims
 use Rattle.waiting.specs.Claims.{Arbitrated}
 use Rattle.arbiter.specs.Agreement.{holder}
 use Rattle.waiting.proofs.Invariant.{Sound, sound, sound-fresh, sound-step, paged}
-use Rattle.waiting.proofs.Fairness.{served}
 use Rattle.waiting.proofs.Arbitration.{arbitrated-from}
 use Rattle.tis.proofs.Calls.{State, Step, powersOn, resets, reads, writes, responds, asksPcr, asksLine, asksReset, asksExtend, looks, Runs, none, more}
 use Rattle.tis.proofs.KeepsModel.{Keeps, power-keeps, reset-keeps, read-keeps, respond-keeps, write-keeps}
@@ -29,14 +28,14 @@ activeIn s = holder (s .device .control .arbiter .active)
 abbrev pub waitsIn : State → ℕ → Bool
 waitsIn s x = waits (s .device .control .arbiter) x
 
--- from s, and the model m, x is active no later than handover number (4 - x)(k + 1) + 1
-unfoldable pub Served : State → Model → ℕ → ℕ → Type 0
-Served s m x k =
+-- from s, and the model m, x is active no later than handover number (4 - x)(k + 1) + 1; `often` counts the requests
+unfoldable pub Served : (ℕ → Model → List Event → ℕ) → State → Model → ℕ → ℕ → Type 0
+Served often s m x k =
     (ds : List (Call × ℕ)) (s′ : State) → Runs s ds s′
     -- as long as x waits it doesn't withdraw, no reset or power-on comes, and each higher locality writes its request at most k times
     → tally (isRelease x) (during x m (events ds)) ≡ 0
     → tally isRestart (during x m (events ds)) ≡ 0
-    → ((y : ℕ) → x < y → y < 5 → tally (isRequest y) (during x m (events ds)) ≤ k)
+    → ((y : ℕ) → x < y → y < 5 → often y m (during x m (events ds)) ≤ k)
     -- the list has that many handovers, or more
     → bound x k ≤ handovers m (events ds)
     -- then among its calls, at that handover or before it, there is one after which the record has x active
@@ -60,7 +59,9 @@ pub record Demand3 (m : Model) (s : State) : Type 0 where
   pub ends : (c : Call) (n : ℕ) (s′ : State) → Step c s n s′ → (x : ℕ) → x < 5 → waitsIn s x ≡ true → (isRelease x (eventOf c n) ≡ true) ⊎ (isRestart (eventOf c n) ≡ true)
       → waitsIn s′ x ≡ false
   -- and no wait is longer than this
-  pub served : (x k : ℕ) → x < 5 → waitsIn s x ≡ true → Served s m x k
+  pub served : (x k : ℕ) → x < 5 → waitsIn s x ≡ true → Served written s m x k
+  -- the same where a request counts only if it begins a wait
+  pub servedByWaits : (x k : ℕ) → x < 5 → waitsIn s x ≡ true → Served beginnings s m x k
 
 -- ---- its proof
 
@@ -94,10 +95,10 @@ events-take zero cs = refl
 events-take (suc n) [] = refl
 events-take (suc n) (c ∷ cs) = ap (λ (l : List Event). eventOf (c .0) (c .1) ∷ l) (events-take n cs)
 
-served-by : (s : State) (m : Model) (x k : ℕ) → Keeps m (s .device) → Sound m → x < 5 → waitsIn s x ≡ true → Served s m x k
+served-by : (often : ℕ → Model → List Event → ℕ) (s : State) (m : Model) (x k : ℕ) → Keeps m (s .device) → Sound m → claims.Served often m x k → x < 5 → waitsIn s x ≡ true → Served often s m x k
 unfolding Served claims.Served
-served-by s m x k a h l w ds s′ ps p q r n =
-    let f : _ = served x k m l (a .flags x ∙ w) (events ds) p q r n in
+served-by often s m x k a h v l w ds s′ ps p q r n =
+    let f : _ = v l (a .flags x ∙ w) (events ds) p q r n in
     let t : _ = runs-cut (f .0) ps in
     let e : events (take (f .0) ds) ≡ take (f .0) (events ds) = events-take (f .0) ds in
     (f .0, t .0, t .1, t .2, sym (all-calls m (t .1) a h .active) ∙ rw e (f .1), rw e (f .2))
@@ -111,7 +112,8 @@ proof s m a h = record {
   requests = λ c n s′ p x y e i j. sym (one-call m p a h .flags x) ∙ ap (λ (v : Event). step m v .waiting x) e ∙ b .requests x y (a .active ∙ i) j;
   lasts = λ c n s′ p x w y z. on s′ (one-call m p a h) (b .lasts x (eventOf c n) (a .flags x ∙ w) y z);
   ends = λ c n s′ p x l w e. sym (one-call m p a h .flags x) ∙ b .ends x (eventOf c n) l (a .flags x ∙ w) e;
-  served = λ x k l w. served-by s m x k a h l w;
+  served = λ x k l w. served-by written s m x k a h (b .served x k) l w;
+  servedByWaits = λ x k l w. served-by beginnings s m x k a h (b .servedByWaits x k) l w;
 }
   where
     b : Arbitrated m

@@ -11,7 +11,7 @@ use Rattle.waiting.specs.Waits.{events, run, modelAfter, handsOver, isRe
 use Rattle.waiting.specs.Claims.{Same, Arbitrated, Counted}
 use Rattle.waiting.proofs.ModelLaws.{clash, not-free, held-same, View, same, wiped, queued, dropped, took, passed, view}
 use Rattle.waiting.proofs.Invariant.{Sound, sound}
-use Rattle.waiting.proofs.Fairness.{lasts, served}
+use Rattle.waiting.proofs.Fairness.{lasts, served, served-by-waits}
 
 serves : (m : Model) (e : Event) → handsOver m e ≡ true → step m e .active ≡ highest (m .waiting)
 serves m e h = by (view m e) h
@@ -176,6 +176,7 @@ arbitrated-from m s = record {
   lasts = lasts m;
   ends = ends m s;
   served = λ x k. served x k m;
+  servedByWaits = λ x k. served-by-waits x k m;
 }
 
 -- after every list of calls, whatever their refusal numbers

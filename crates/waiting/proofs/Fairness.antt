@@ -11,7 +11,7 @@ use lib.ListN.{length, take}
 use lib.Dec.{eqb}
 use borrow.Author.Tests.{eqb-true, eqb-false, eq-eqb}
 use Rattle.waiting.specs.Model.{Model, Holder, free, held, Event, put, highest, without, step}
-use Rattle.waiting.specs.Waits.{run, handsOver, one, handovers, isRequest, isRelease, isRestart, tally, begins, beginnings, while, during, bound}
+use Rattle.waiting.specs.Waits.{run, handsOver, one, handovers, isRequest, isRelease, isRestart, tally, written, begins, beginnings, while, during, bound}
 use Rattle.waiting.specs.Claims.{Served}
 use Rattle.waiting.proofs.ModelLaws.{clash, View, same, wiped, queued, dropped, took, passed, view, Highest, split, highest-held, highest-free}
 
@@ -322,10 +322,15 @@ no-starvation x k m es l w p q r n = by (ended x m es w p q)
         over : handovers m (during x m es) ≤ (4 - x) * (k + 1) → handovers m (during x m es) ≡ handovers m es → ⊥
         over h e = omega arith
 
--- and as document 01 counts them
-pub served : (x k : ℕ) (m : Model) → Served m x k
+-- as a claim on the list
+pub served-by-waits : (x k : ℕ) (m : Model) → Served beginnings m x k
 unfolding Served
-served x k m l w es p q r n =
-    let f = no-starvation x k m es l w p q (λ y i j. omega (arith, beginnings-requests y m (during x m es), r y i j)) n in
+served-by-waits x k m l w es p q r n =
+    let f = no-starvation x k m es l w p q r n in
     let e : during x m es ≡ take (length (during x m es)) es = during-take x m es in
     (length (during x m es), rw (← e) (f .0), rw (← e) (f .1))
+
+-- and where every write of a request counts, as document 01 has it
+pub served : (x k : ℕ) (m : Model) → Served written m x k
+unfolding Served
+served x k m l w es p q r n = served-by-waits x k m l w es p q (λ y i j. omega (arith, beginnings-requests y m (during x m es), r y i j)) n

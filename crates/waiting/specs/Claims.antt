@@ -6,19 +6,19 @@ use mathlib.Core.List.{List}
 use mathlib.Core.Logic.{_⊎_}
 use lib.ListN.{take}
 use Rattle.waiting.specs.Model.{Model, free, held, Event, restart, access, requestUse, release, seize, highest, step}
-use Rattle.waiting.specs.Waits.{run, handsOver, handovers, isRequest, isRelease, isRestart, tally, begins, during, bound}
+use Rattle.waiting.specs.Waits.{run, handsOver, handovers, isRequest, isRelease, isRestart, tally, written, begins, beginnings, during, bound}
 
 -- "If x begins to wait and, as long as it waits, x doesn't withdraw, no reset or power-on comes, and each higher locality writes
 -- its request at most k times, then x is active no later than handover number (4 - x)(k + 1) + 1": "in a list with n handovers
--- after that request, x has become active at the nth or before it." Here from any m in which x waits.
-unfoldable pub Served : Model → ℕ → ℕ → Type 0
-Served m x k =
+-- after that request, x has become active at the nth or before it." Here from any m in which x waits; `often` counts the requests.
+unfoldable pub Served : (ℕ → Model → List Event → ℕ) → Model → ℕ → ℕ → Type 0
+Served often m x k =
     x < 5
     → m .waiting x ≡ true
     → (es : List Event)
     → tally (isRelease x) (during x m es) ≡ 0
     → tally isRestart (during x m es) ≡ 0
-    → ((y : ℕ) → x < y → y < 5 → tally (isRequest y) (during x m es) ≤ k)
+    → ((y : ℕ) → x < y → y < 5 → often y m (during x m es) ≤ k)
     → bound x k ≤ handovers m es
     → (n : ℕ) × (run m (take n es) .active ≡ held x) × (handovers m (take n es) ≤ bound x k)
 
@@ -48,7 +48,9 @@ pub record Arbitrated (m : Model) : Type 0 where
   pub lasts : (x : ℕ) (e : Event) → m .waiting x ≡ true → isRelease x e ≡ false → isRestart e ≡ false
       → (step m e .waiting x ≡ true) ⊎ (step m e .active ≡ held x)
   pub ends : (x : ℕ) (e : Event) → x < 5 → m .waiting x ≡ true → (isRelease x e ≡ true) ⊎ (isRestart e ≡ true) → step m e .waiting x ≡ false
-  pub served : (x k : ℕ) → Served m x k
+  pub served : (x k : ℕ) → Served written m x k
+  -- the same where a request counts only if it begins a wait, and so also where one that changes nothing doesn't count
+  pub servedByWaits : (x k : ℕ) → Served beginnings m x k
 
 -- what the premises count is just what they name
 pub record Counted : Type 0 where

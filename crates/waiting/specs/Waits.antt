@@ -79,6 +79,10 @@ unfoldable pub tally : (Event → Bool) → List Event → ℕ
 tally t [] = 0
 tally t (e ∷ es) = one (t e) + tally t es
 
+-- how often y writes its request in the list, whatever comes of it
+abbrev pub written : ℕ → Model → List Event → ℕ
+written y m es = tally (isRequest y) es
+
 -- does y begin to wait: it waits after the event and did not before, so a second request begins nothing anew
 abbrev pub begins : ℕ → Model → Event → Bool
 begins y m e = not (m .waiting y) && step m e .waiting y
