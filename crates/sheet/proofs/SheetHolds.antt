@@ -27,7 +27,7 @@ use Rattle.outcome.specs.Result.{Result, result}
 use Rattle.power.specs.Power.{poweredOn}
 use Rattle.judge.specs.Refusals.{busRefusal, lentRefusal}
 use Rattle.cycles.specs.Cycles.{busRead, readAt, busWrite, acceptedWrite, writtenAt}
-use Rattle.sheet.specs.Sheet.{Line, write, ignored, reads, refused, run, Check, fresh, afterRead, afterWrite, checks, gots, wants, Holds, head, free, send, complete, p1, p2, p3, p4, p5, p6, p7, p8, p9, p10, p10′, p11, p12, Each, SheetHolds}
+use Rattle.sheet.specs.Sheet.{Line, write, ignored, reads, refused, run, Check, fresh, afterRead, afterWrite, checks, gots, wants, Holds, head, free, send, complete, runs, p1, p2, p3, p4, p5, p6, p7, p8, p9, p10, p10′, p11, p12, Each, SheetHolds}
 
 -- ---- lines played in two parts
 
@@ -97,7 +97,7 @@ abbrev secondPart : List Line
 secondPart = (ignored 0x0018 0x20 ∷ []) ++ complete 3
 
 abbrev thirdPart : List Line
-thirdPart = ignored 0x0024 0xff ∷ write 0x0018 0x20 ∷ run 1 ∷ []
+thirdPart = (ignored 0x0024 0xff ∷ []) ++ runs 1
 
 -- the parts hold, and the first two leave this
 parts-of-8 : Holds fresh firstPart × (played fresh firstPart ≡ receiving 6) × Holds (receiving 6) secondPart × (played (receiving 6) secondPart ≡ receiving 10) × Holds (receiving 10) thirdPart

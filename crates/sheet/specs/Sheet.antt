@@ -130,6 +130,10 @@ receive (v ∷ b) = reads 0x0024 v ∷ receive b
 abbrev pub complete : ℕ → List Line
 complete n = send (free n) ++ (reads 0x0018 0x88 ∷ []) ++ send (free 1) ++ (reads 0x0018 0x80 ∷ [])
 
+-- go, and the command runs as run n: no answer is there yet
+abbrev pub runs : ℕ → List Line
+runs n = write 0x0018 0x20 ∷ run n ∷ reads 0x0018 0x80 ∷ reads 0x0024 0xff ∷ []
+
 -- burstCount, below 256
 abbrev pub burst : ℕ → List Line
 burst n = reads 0x0019 n ∷ reads 0x001a 0 ∷ []
@@ -139,7 +143,7 @@ abbrev pub p8 : List Line
 p8 =
     p7
     ++ (send (head 0x00 0x0a) ++ (reads 0x0018 0x88 ∷ ignored 0x0018 0x20 ∷ []) ++ complete 3
-    ++ (ignored 0x0024 0xff ∷ write 0x0018 0x20 ∷ run 1 ∷ []))
+    ++ (ignored 0x0024 0xff ∷ []) ++ runs 1)
 
 -- "P9 size 9: nine bytes, go, STS 90h; ten bytes read, then FFh and 80h; retry, 90h."
 abbrev pub p9 : List Line
@@ -150,7 +154,7 @@ p9 =
 
 -- "P10 size 1,024 runs; .."
 abbrev pub p10 : List Line
-p10 = p7 ++ (send (head 0x04 0x00) ++ complete 1017 ++ (write 0x0018 0x20 ∷ run 1 ∷ []))
+p10 = p7 ++ (send (head 0x04 0x00) ++ complete 1017 ++ runs 1)
 
 -- ".. 1,025 is answered 19h after 1,024 bytes."
 abbrev pub p10′ : List Line
