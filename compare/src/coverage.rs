@@ -1,8 +1,10 @@
 //! What the lists reached: calls by kind and refusal, and the events that must not be missing.
 
 use crate::bench::Bench;
+use crate::offsets;
 use crate::records::CLAUSES;
 use crate::turn::{Turn, KINDS, REFUSALS};
+use yardstick::book::{bound, Served};
 use yardstick::call::Call;
 use yardstick::device::MOST_HASH_BYTES;
 use yardstick::{Device, Phase};
@@ -16,6 +18,7 @@ pub struct Before {
     run: u32,
     hashed: u32,
     declared: u64,
+    in_shape: bool,
 }
 
 impl Before {
@@ -30,6 +33,7 @@ impl Before {
             run: device.run,
             hashed: device.hash.stream.count,
             declared: size.iter().fold(0, |sum, byte| sum << 8 | u64::from(*byte)),
+            in_shape: device.pcr_value(0).0 == 0,
         }
     }
 }
@@ -59,11 +63,15 @@ enum Event {
     AnswerAboveC,
     CommandOfC,
     CommandAboveC,
+    CommandFarAbove,
+    RunBeyondSize,
     LastHashByte,
+    OddAndOutOfShape,
+    LongestWait,
 }
 
 /// In the order of `Event`.
-const EVENTS: [&str; 23] = [
+const EVENTS: [&str; 27] = [
     "waits begun",
     "handovers that serve a waiting locality",
     "handovers that free the device",
@@ -86,7 +94,11 @@ const EVENTS: [&str; 23] = [
     "answers of C + 1 bytes refused",
     "commands of C bytes run",
     "commands of C + 1 bytes answered",
+    "commands of 65,536 bytes or more answered",
+    "runs started with more bytes than declared",
     "hash byte number 1,048,576 taken",
+    "FIFOs of odd lengths refused of a record out of shape",
+    "localities served by the last handover that the bound allows, k above 0",
 ];
 
 #[derive(Default)]
@@ -98,6 +110,8 @@ pub struct Coverage {
     most_waiting: usize,
     /// Loads with FIFOs of unequal and of equal length.
     lengths: [u64; 2],
+    /// Accepted reads and writes at each offset.
+    bytes: Vec<[u64; 2]>,
 }
 
 fn number(waiting: &[bool; 5]) -> usize {
@@ -121,6 +135,8 @@ impl Coverage {
         self.refusals[turn.kind()][usize::from(refusal)] += 1;
         self.calls += u64::from(!matches!(turn, Turn::Load { .. }));
         let device = &after.device;
+        self.event(Event::OddAndOutOfShape, refusal == 2 && !before.in_shape);
+        self.count_byte(turn, refusal);
         self.most_waiting = self.most_waiting.max(number(&device.waiting));
         match turn {
             Turn::Load { note, bench } => {
@@ -144,6 +160,24 @@ impl Coverage {
                 self.count_command(before, after, *offset, *byte);
             }
             _ => {}
+        }
+    }
+
+    /// A wait that ended by a handover.
+    pub fn count_wait(&mut self, served: Option<Served>) {
+        let last = served.is_some_and(|wait| wait.k > 0 && wait.handovers == bound(wait.x, wait.k));
+        self.event(Event::LongestWait, last);
+    }
+
+    fn count_byte(&mut self, turn: &Turn, refusal: u8) {
+        let (offset, kind) = match turn {
+            Turn::Made(Call::Read { offset }) => (*offset, 0),
+            Turn::Made(Call::Write { offset, .. }) => (*offset, 1),
+            _ => return,
+        };
+        if let (0, Some(place)) = (refusal, offsets::place(offset)) {
+            self.bytes.resize(offsets::COUNT, [0; 2]);
+            self.bytes[place][kind] += 1;
         }
     }
 
@@ -196,12 +230,18 @@ impl Coverage {
         }
         let idle = after.phase == Phase::Idle && byte & 0x62 == 0x40;
         match before.phase {
-            Phase::Reception(_) => {
+            Phase::Reception(n) => {
+                let beyond = u64::from(n) > before.declared;
+                self.event(Event::RunBeyondSize, beyond && after.run != before.run);
                 let answered = matches!(after.phase, Phase::Completion(..));
                 self.event(Event::BadSize, answered);
                 self.event(
                     Event::CommandAboveC,
                     answered && before.declared == c as u64 + 1,
+                );
+                self.event(
+                    Event::CommandFarAbove,
+                    answered && before.declared > u64::from(u16::MAX),
                 );
                 self.event(Event::AbortReception, idle);
             }
@@ -231,6 +271,13 @@ impl Coverage {
         println!("  most localities waiting at once: {}", self.most_waiting);
         let [unequal, equal] = self.lengths;
         println!("  FIFOs of equal length: {equal}, of unequal length: {unequal}");
+        let least = |kind: usize| self.bytes.iter().map(|counts| counts[kind]).min();
+        println!(
+            "  each of {} offsets read {} times or more, written {} times or more",
+            offsets::COUNT,
+            least(0).unwrap_or(0),
+            least(1).unwrap_or(0)
+        );
         println!("shape rule, records that just break a clause and just meet it:");
         for (clause, [broken, met]) in CLAUSES.iter().zip(self.clauses) {
             println!("  {clause}: {broken} and {met}");
@@ -252,6 +299,13 @@ impl Coverage {
         for (clause, counts) in CLAUSES.iter().zip(self.clauses) {
             if counts.contains(&0) {
                 missing.push(format!("records near '{clause}'"));
+            }
+        }
+        for (offset, counts) in offsets::all().zip(&self.bytes) {
+            for (count, done) in counts.iter().zip(["read", "write"]) {
+                if *count == 0 {
+                    missing.push(format!("an accepted {done} at {offset:04x}"));
+                }
             }
         }
         if self.most_waiting < 4 {

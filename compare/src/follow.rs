@@ -3,13 +3,13 @@
 use crate::bench::Bench;
 use crate::records::Clause;
 use crate::turn::Turn;
-use yardstick::book::Watch;
+use yardstick::book::{Book, Served, Watch};
 use yardstick::call::Call;
 use yardstick::device::FIFO_LENGTHS;
 
 pub struct Follower {
     pub bench: Bench,
-    /// Kept from the first power-on on, until a load.
+    /// Kept from the first power-on on, or from a load of a record in shape.
     watch: Option<Watch>,
     note: Option<(Clause, bool)>,
 }
@@ -42,7 +42,7 @@ impl Follower {
             Turn::Made(Call::PowerOn { .. }) => {
                 self.watch = Some(self.watch.take().unwrap_or_default());
             }
-            Turn::Load { note, .. } => (self.watch, self.note) = (None, *note),
+            Turn::Load { bench, note } => (self.watch, self.note) = (begun(bench), *note),
             Turn::Made(_) => {}
         }
         if let (Some(watch), Turn::Made(call)) = (&mut self.watch, turn) {
@@ -64,6 +64,11 @@ impl Follower {
         self.check_note(turn, refusal)
     }
 
+    /// A wait that the last call ended by a handover.
+    pub fn served(&self) -> Option<Served> {
+        self.watch.as_ref()?.served()
+    }
+
     /// A record made to meet a clause of the shape rule is accepted by the next call, one made to break it refused with 6.
     fn check_note(&mut self, turn: &Turn, refusal: u8) -> Result<(), String> {
         if matches!(turn, Turn::Load { .. }) {
@@ -81,4 +86,17 @@ impl Follower {
             "shape rule, '{clause}': refusal {refusal}, not {due}"
         ))
     }
+}
+
+/// A book that starts with a loaded record, where the front accepts it.
+fn begun(bench: &Bench) -> Option<Watch> {
+    let device = &bench.device;
+    let accepted = device.window(&bench.write, &bench.read).0 == 0;
+    accepted.then(|| {
+        Watch::begun(Book {
+            active: device.active,
+            waiting: device.waiting,
+            open: device.hash.open,
+        })
+    })
 }

@@ -27,12 +27,12 @@ fn spawn(program: &Path, errors: Stdio) -> io::Result<Child> {
         .spawn()
 }
 
-/// Hands the program's output to `look` while the input goes in; a look that stops early stops the program.
+/// Hands the program's output to `look` while the input goes in; a look that finds something stops the program early.
 pub fn watch<T>(
     program: &Path,
     input: &[u8],
-    look: impl FnOnce(&mut BufReader<ChildStdout>) -> T,
-) -> io::Result<T> {
+    look: impl FnOnce(&mut BufReader<ChildStdout>) -> io::Result<Option<T>>,
+) -> io::Result<Option<T>> {
     let mut child = spawn(program, Stdio::inherit())?;
     let mut stdin = child.stdin.take().expect("a pipe");
     let stdout = child.stdout.take().expect("a pipe");
@@ -43,8 +43,11 @@ pub fn watch<T>(
         let seen = look(&mut reader);
         drop(reader);
         seen
-    });
-    child.wait()?;
+    })?;
+    let status = child.wait()?;
+    if seen.is_none() && !status.success() {
+        return Err(io::Error::other(format!("the front ends with {status}")));
+    }
     Ok(seen)
 }
 

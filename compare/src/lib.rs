@@ -10,6 +10,7 @@ mod examine;
 mod faults;
 mod follow;
 mod front;
+mod offsets;
 mod random;
 mod records;
 mod scene;
@@ -81,6 +82,7 @@ fn follow(reader: &mut impl BufRead, calls: &[Turn], coverage: &mut Coverage) ->
             return Ok(false);
         }
         coverage.count(&before, call, refusal, &follower.bench, &expected);
+        coverage.count_wait(follower.served());
     }
     Ok(true)
 }
@@ -98,8 +100,11 @@ fn compare(
                 return Ok(Some(n));
             }
         }
-        Ok(None)
-    })?
+        match reader.fill_buf()? {
+            [] => Ok(None),
+            _ => Err(io::Error::other("the front writes more than was asked")),
+        }
+    })
 }
 
 /// The last call alone, on the record and the FIFOs that it found.

@@ -87,7 +87,7 @@ pub fn free(random: &Random) -> Device {
     device.established = random.coin();
     device.identity = std::array::from_fn(|_| random.byte());
     device.run = random.pick(&[0, 1, 7, u32::MAX - 1, u32::MAX]);
-    device.pcrs = std::array::from_fn(|_| [random.byte(); 20]);
+    device.pcrs = std::array::from_fn(|_| std::array::from_fn(|_| random.byte()));
     device
 }
 
@@ -99,17 +99,14 @@ pub fn held(random: &Random, x: u8) -> Device {
     device
 }
 
-/// In shape: a sequence open with `count` bytes.
-///
-/// Behind the tail stands 00h, as on every list: document 01 does not say what a digest is of any other stream.
+/// In shape: a sequence open with `count` bytes, and any bytes behind those that fill no block.
 pub fn open(random: &Random, count: u32) -> Device {
     let mut device = held(random, 4);
-    let mut stream = Sha1 {
+    let stream = Sha1 {
         chaining: std::array::from_fn(|_| random.next() as u32),
-        tail: [0; 64],
+        tail: std::array::from_fn(|_| random.byte()),
         count,
     };
-    stream.tail[..count as usize % 64].fill_with(|| random.byte());
     device.hash = HashSequence { open: true, stream };
     device
 }
@@ -119,6 +116,11 @@ fn in_phase(random: &Random, phase: Phase) -> Device {
     let mut device = held(random, x);
     device.phase = phase;
     device
+}
+
+/// In shape: somebody active, in any phase but Idle.
+pub fn busy(random: &Random) -> Device {
+    in_phase(random, busy_phase(random))
 }
 
 /// Any phase but Idle, in shape for every allowed C.
@@ -201,7 +203,7 @@ pub fn near(random: &Random, clause: Clause, met: bool, c: u16) -> Device {
         Clause::HashBytesWhileClosed => {
             let x = random.locality();
             let mut device = held(random, x);
-            device.hash.stream.tail = [random.byte(); 64];
+            device.hash.stream.tail = std::array::from_fn(|_| random.byte());
             device.hash.stream.count = if met {
                 0
             } else {

@@ -118,6 +118,24 @@ struct Wait {
     requests: [u64; LOCALITIES],
 }
 
+impl Wait {
+    /// The most requests that a locality higher than x wrote.
+    fn k(&self, x: u8) -> u64 {
+        let higher = &self.requests[usize::from(x) + 1..];
+        higher.iter().copied().max().unwrap_or(0)
+    }
+}
+
+/// A wait that a handover ended by service.
+#[derive(Clone, Copy, Debug, PartialEq, Eq)]
+pub struct Served {
+    pub x: u8,
+    /// The most requests that a higher locality wrote meanwhile.
+    pub k: u64,
+    /// The handovers since the wait began, this one with them.
+    pub handovers: u64,
+}
+
 /// A law of demand 3 that did not hold.
 #[derive(Clone, Copy, Debug, PartialEq, Eq)]
 pub enum Broken {
@@ -167,6 +185,7 @@ pub fn bound(x: u8, k: u64) -> u64 {
 pub struct Watch {
     book: Book,
     waits: [Option<Wait>; LOCALITIES],
+    served: Option<Served>,
 }
 
 impl Watch {
@@ -174,8 +193,23 @@ impl Watch {
         Watch::default()
     }
 
+    /// A watch that starts in the middle: whoever waits there has waited through no handover yet.
+    pub fn begun(book: Book) -> Watch {
+        let mut watch = Watch {
+            book,
+            ..Watch::default()
+        };
+        watch.open_and_close_waits();
+        watch
+    }
+
     pub fn book(&self) -> &Book {
         &self.book
+    }
+
+    /// The wait that the last call ended, if it was a handover.
+    pub fn served(&self) -> Option<Served> {
+        self.served
     }
 
     /// Takes one call and its refusal number.
@@ -202,6 +236,7 @@ impl Watch {
         check_service(event, &self.book, &after)?;
         check_waits_kept(event, &self.book, &after)?;
         self.count(event);
+        self.served = self.serves(event, &after);
         self.book = after;
         self.check_bounds(event)?;
         self.open_and_close_waits();
@@ -219,6 +254,16 @@ impl Watch {
         }
     }
 
+    fn serves(&self, event: Event, after: &Book) -> Option<Served> {
+        let x = after.active.filter(|_| event == Event::Handover)?;
+        let wait = self.waits[usize::from(x)]?;
+        Some(Served {
+            x,
+            k: wait.k(x),
+            handovers: wait.handovers,
+        })
+    }
+
     fn check_bounds(&self, event: Event) -> Result<(), Broken> {
         if event != Event::Handover {
             return Ok(());
@@ -227,17 +272,9 @@ impl Watch {
             let Some(wait) = self.waits[usize::from(x)] else {
                 continue;
             };
-            let k = wait.requests[usize::from(x) + 1..]
-                .iter()
-                .copied()
-                .max()
-                .unwrap_or(0);
-            if wait.handovers >= bound(x, k) {
-                return Err(Broken::Starved {
-                    x,
-                    k,
-                    handovers: wait.handovers,
-                });
+            let (k, handovers) = (wait.k(x), wait.handovers);
+            if handovers >= bound(x, k) {
+                return Err(Broken::Starved { x, k, handovers });
             }
         }
         Ok(())

@@ -1,0 +1,63 @@
+//! Records near the shape rule, and FIFOs of odd lengths.
+
+use crate::bench::Bench;
+use crate::records::{self, CLAUSES};
+use crate::scene::Scene;
+use crate::turn::Turn;
+use yardstick::call::Call;
+
+impl Scene<'_> {
+    /// Each clause of the shape rule just met and just broken, and calls of every kind on that record.
+    pub fn near_shape(&mut self) {
+        for clause in CLAUSES {
+            let met = self.random.coin();
+            let c = self.c();
+            let device = records::near(self.random, clause, met, c as u16);
+            // Refusal 2 comes before 6.
+            let odd = self.random.once_in(4);
+            let (write, read) = match odd {
+                true => (self.any_length(), self.any_length()),
+                false => (c, c),
+            };
+            let bench = Box::new(Bench {
+                device,
+                write: self.fifo(write),
+                read: self.fifo(read),
+            });
+            let note = (!odd).then_some((clause, met));
+            self.call(Turn::Load { bench, note });
+            self.call(Call::Window);
+            if self.random.coin() {
+                self.call(Call::PcrValue { pcr: 17 });
+            }
+            for _ in 0..self.random.within(2, 10) {
+                self.any_call();
+            }
+        }
+    }
+
+    /// FIFOs of lengths that are too small, too great or unequal, beside allowed ones.
+    pub fn odd_lengths(&mut self) {
+        for _ in 0..6 {
+            let write = self.any_length();
+            let read = if self.random.coin() {
+                write
+            } else {
+                self.any_length()
+            };
+            let x = self.random.locality();
+            let mut device = records::held(self.random, x);
+            if self.random.coin() {
+                device.phase = records::busy_phase(self.random);
+            }
+            let (write, read) = (self.fifo(write), self.fifo(read));
+            self.load(device, write, read);
+            if self.random.coin() {
+                self.power_on_again();
+            }
+            for _ in 0..self.random.within(4, 30) {
+                self.any_call();
+            }
+        }
+    }
+}
