@@ -31,7 +31,7 @@ bench:
 	target/cargo/release/bench_sha1
 	target/cargo/release/bench_cycles
 
-# N more calls through the front and the yardstick, from a seed of the day; `make soak N=1000000 SEED=7` picks both.
+# N more calls through the front and the yardstick, from a seed that the clock gives; `make soak N=1000000 SEED=7` picks both.
 N := 50000000
 SEED := $(shell date +%s)
 soak:

@@ -45,7 +45,7 @@ fn main() {
             .copied()
             .unwrap_or_else(|| (random.next() % 4097) as usize);
         let message: Vec<u8> = (0..length).map(|_| random.next() as u8).collect();
-        write(&folder.join(format!("{n:05}.bin")), &message);
+        write(&folder.join(format!("{n:06}.bin")), &message);
         stream.extend_from_slice(&(length as u16).to_be_bytes());
         stream.extend_from_slice(&message);
     }
