@@ -45,54 +45,64 @@ impl Bench {
     }
 
     fn make(&mut self, call: &Call, out: &mut Vec<u8>) -> u8 {
-        let Bench {
-            device,
-            write,
-            read,
-        } = self;
         let refusal = match call {
             Call::PowerOn {
                 established,
                 identity,
             } => {
+                let (write, read) = (&mut self.write, &mut self.read);
                 let (refusal, fresh) = Device::power_on(*established, *identity, write, read);
-                *device = fresh;
+                self.device = fresh;
                 refusal
             }
-            Call::Reset => device.reset(write, read),
+            Call::Reset => self.device.reset(&mut self.write, &mut self.read),
+            Call::Write { offset, byte } => {
+                let (write, read) = (&mut self.write, &mut self.read);
+                self.device.write(write, read, *offset, *byte)
+            }
+            Call::Respond { run, answer } => {
+                let (write, read) = (&mut self.write, &mut self.read);
+                self.device.respond(write, read, *run, answer)
+            }
             Call::Read { offset } => {
-                let (refusal, byte) = device.read(write, read, *offset);
+                let (refusal, byte) = self.device.read(&self.write, &self.read, *offset);
                 out.extend([refusal, byte]);
                 return refusal;
             }
-            Call::Write { offset, byte } => device.write(write, read, *offset, *byte),
-            Call::Respond { run, answer } => device.respond(write, read, *run, answer),
-            Call::PcrValue { pcr } => {
-                let (refusal, value) = device.pcr_value(*pcr);
-                out.push(refusal);
-                out.extend(value);
-                return refusal;
-            }
-            Call::InterruptLine => {
-                out.push(u8::from(device.interrupt_line()));
-                return 0;
-            }
-            Call::MayReset { pcr, locality } => {
-                return put_permission(out, Device::may_reset(*pcr, *locality));
-            }
-            Call::MayExtend { pcr, locality } => {
-                return put_permission(out, Device::may_extend(*pcr, *locality));
-            }
-            Call::Window => {
-                let (refusal, part) = device.window(write, read);
-                out.push(refusal);
-                out.extend((part.len() as u16).to_le_bytes());
-                out.extend_from_slice(part);
-                return refusal;
-            }
+            question => return self.ask(question, out),
         };
         out.push(refusal);
         refusal
+    }
+
+    /// A call that leaves all as it was.
+    fn ask(&self, question: &Call, out: &mut Vec<u8>) -> u8 {
+        match question {
+            Call::PcrValue { pcr } => {
+                let (refusal, value) = self.device.pcr_value(*pcr);
+                out.push(refusal);
+                out.extend(value);
+                refusal
+            }
+            Call::InterruptLine => {
+                out.push(u8::from(self.device.interrupt_line()));
+                0
+            }
+            Call::MayReset { pcr, locality } => {
+                put_permission(out, Device::may_reset(*pcr, *locality))
+            }
+            Call::MayExtend { pcr, locality } => {
+                put_permission(out, Device::may_extend(*pcr, *locality))
+            }
+            Call::Window => {
+                let (refusal, part) = self.device.window(&self.write, &self.read);
+                out.push(refusal);
+                out.extend((part.len() as u16).to_le_bytes());
+                out.extend_from_slice(part);
+                refusal
+            }
+            _ => unreachable!("no question"),
+        }
     }
 
     /// The image, the two lengths and the FIFOs' bytes.

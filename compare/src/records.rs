@@ -141,43 +141,14 @@ fn broken_high(random: &Random, c: u16) -> u16 {
 /// A record that just meets the clause or just breaks it, and no other, with FIFOs of `c` bytes.
 pub fn near(random: &Random, clause: Clause, met: bool, c: u16) -> Device {
     let high = if met { c } else { broken_high(random, c) };
-    let ten = if met {
-        10
-    } else {
-        random.pick(&[9, 9, 6, 1, 0])
-    };
-    let some = random.below(5) as usize;
+    let broken_ten = random.pick(&[9, 9, 6, 1, 0]);
+    let ten = if met { 10 } else { broken_ten };
     match clause {
-        Clause::ActiveAbove4 => {
-            let mut device = held(random, 4);
-            device.active = Some(if met {
-                4
-            } else {
-                random.pick(&[5, 5, 6, 7, 8, 128, 255])
-            });
-            device.waiting[4] = false;
-            device
-        }
-        Clause::WaitsWhileFree => {
-            let mut device = free(random);
-            device.waiting[some] = !met;
-            device
-        }
-        Clause::ActiveWaits => {
-            let mut device = held(random, some as u8);
-            device.waiting = std::array::from_fn(|y| y != some || !met);
-            device
-        }
-        Clause::PhaseWhileFree => {
-            let mut device = free(random);
-            device.phase = if met { Phase::Idle } else { busy_phase(random) };
-            device
-        }
-        Clause::PhaseWhileOpen => {
-            let mut device = open(random, 3);
-            device.phase = if met { Phase::Idle } else { busy_phase(random) };
-            device
-        }
+        Clause::ActiveAbove4 => near_active(random, met),
+        Clause::WaitsWhileFree => near_waiting_while_free(random, met),
+        Clause::ActiveWaits => near_waiting_while_active(random, met),
+        Clause::PhaseWhileFree => near_idle(random, free(random), met),
+        Clause::PhaseWhileOpen => near_idle(random, open(random, 3), met),
         Clause::ReceptionLow => in_phase(random, Phase::Reception(u16::from(met))),
         Clause::ReceptionHigh => in_phase(random, Phase::Reception(high)),
         Clause::ExecutionLow => in_phase(random, Phase::Execution(ten)),
@@ -188,28 +159,58 @@ pub fn near(random: &Random, clause: Clause, met: bool, c: u16) -> Device {
             let length = random.within(10, 1023) as u16;
             in_phase(random, Phase::Completion(length, length + u16::from(!met)))
         }
-        Clause::OpenWithout4 => {
-            let mut device = open(random, 5);
-            device.waiting = [false; 5];
-            if !met {
-                device.active = random.pick(&[None, Some(0), Some(1), Some(2), Some(3)]);
-            }
-            device
-        }
+        Clause::OpenWithout4 => near_held_by_4(random, met),
         Clause::TooManyHashBytes => {
             let over = random.pick(&[1, 1, 64, u32::MAX - MOST_HASH_BYTES]);
             open(random, MOST_HASH_BYTES + if met { 0 } else { over })
         }
-        Clause::HashBytesWhileClosed => {
-            let x = random.locality();
-            let mut device = held(random, x);
-            device.hash.stream.tail = std::array::from_fn(|_| random.byte());
-            device.hash.stream.count = if met {
-                0
-            } else {
-                random.pick(&[1, 64, MOST_HASH_BYTES])
-            };
-            device
-        }
+        Clause::HashBytesWhileClosed => near_closed(random, met),
     }
+}
+
+fn near_active(random: &Random, met: bool) -> Device {
+    let mut device = held(random, 4);
+    if !met {
+        device.active = Some(random.pick(&[5, 5, 6, 7, 8, 128, 255]));
+    }
+    device
+}
+
+fn near_waiting_while_free(random: &Random, met: bool) -> Device {
+    let mut device = free(random);
+    device.waiting[usize::from(random.locality())] = !met;
+    device
+}
+
+fn near_waiting_while_active(random: &Random, met: bool) -> Device {
+    let x = random.locality();
+    let mut device = held(random, x);
+    device.waiting = std::array::from_fn(|y| y != usize::from(x) || !met);
+    device
+}
+
+fn near_idle(random: &Random, mut device: Device, met: bool) -> Device {
+    if !met {
+        device.phase = busy_phase(random);
+    }
+    device
+}
+
+fn near_held_by_4(random: &Random, met: bool) -> Device {
+    let mut device = open(random, 5);
+    if !met {
+        device.active = random.pick(&[None, Some(0), Some(1), Some(2), Some(3)]);
+        device.waiting = [false; 5];
+    }
+    device
+}
+
+fn near_closed(random: &Random, met: bool) -> Device {
+    let x = random.locality();
+    let mut device = held(random, x);
+    device.hash.stream.tail = std::array::from_fn(|_| random.byte());
+    if !met {
+        device.hash.stream.count = random.pick(&[1, 64, MOST_HASH_BYTES]);
+    }
+    device
 }

@@ -407,14 +407,7 @@ mod tests {
 
     #[test]
     fn hash_lines_come_before_access_lines() {
-        let start = Call::Write {
-            offset: 0x402b,
-            byte: 0,
-        };
-        let end = Call::Write {
-            offset: 0x4023,
-            byte: 0,
-        };
+        let (start, end) = (write(0x402b, 0), write(0x4023, 0));
         let mut watch = told(&[
             start.clone(),
             access(4, RELEASE),
@@ -435,63 +428,62 @@ mod tests {
         assert_eq!(*watch.book(), book(Some(2), &[]));
     }
 
+    fn write(offset: u64, byte: u8) -> Call {
+        Call::Write { offset, byte }
+    }
+
     #[test]
-    fn refused_calls_and_questions_leave_no_trace_but_power_on_does() {
+    fn refused_calls_and_questions_leave_no_trace() {
         let mut watch = two_wait();
         let before = watch.clone();
         for refusal in 1..=7 {
             watch.tell(&access(0, RELEASE), refusal).unwrap();
             watch.tell(&Call::Reset, refusal).unwrap();
         }
+        let answer = Call::Respond {
+            run: 0,
+            answer: Vec::new(),
+        };
+        let others = [
+            Call::Read { offset: 0 },
+            answer,
+            Call::PcrValue { pcr: 0 },
+            Call::Window,
+        ];
         for refusal in 0..=7 {
-            watch.tell(&Call::Read { offset: 0 }, refusal).unwrap();
-            watch
-                .tell(
-                    &Call::Respond {
-                        run: 0,
-                        answer: Vec::new(),
-                    },
-                    refusal,
-                )
-                .unwrap();
-            watch.tell(&Call::PcrValue { pcr: 0 }, refusal).unwrap();
-            watch.tell(&Call::Window, refusal).unwrap();
+            for call in &others {
+                watch.tell(call, refusal).unwrap();
+            }
         }
         watch.tell(&Call::InterruptLine, 0).unwrap();
-        watch
-            .tell(
-                &Call::Write {
-                    offset: 0x5000,
-                    byte: RELEASE,
-                },
-                0,
-            )
-            .unwrap();
-        watch.tell(&access(0, RELEASE | REQUEST), 0).unwrap();
-        watch.tell(&access(0, 0xc5), 0).unwrap();
-        watch
-            .tell(
-                &Call::Write {
-                    offset: 0x0018,
-                    byte: RELEASE,
-                },
-                0,
-            )
-            .unwrap();
         assert_eq!(watch, before);
+    }
 
-        let mut reset = before.clone();
-        reset.tell(&Call::Reset, 0).unwrap();
-        assert_eq!(reset, Watch::new());
-        watch
-            .tell(
-                &Call::PowerOn {
-                    established: true,
-                    identity: [0; 5],
-                },
-                2,
-            )
-            .unwrap();
+    #[test]
+    fn writes_that_say_nothing_of_holding_leave_no_trace() {
+        let mut watch = two_wait();
+        for call in [
+            write(0x5000, RELEASE),
+            write(0x0018, RELEASE),
+            access(0, RELEASE | REQUEST),
+            access(0, 0xc5),
+        ] {
+            watch.tell(&call, 0).unwrap();
+        }
+        assert_eq!(watch, two_wait());
+    }
+
+    #[test]
+    fn a_reset_and_any_power_on_clear_the_book() {
+        let mut watch = two_wait();
+        watch.tell(&Call::Reset, 0).unwrap();
+        assert_eq!(watch, Watch::new());
+        let power_on = Call::PowerOn {
+            established: true,
+            identity: [0; 5],
+        };
+        let mut watch = two_wait();
+        watch.tell(&power_on, 2).unwrap();
         assert_eq!(watch, Watch::new());
     }
 
@@ -518,6 +510,11 @@ mod tests {
             step(Event::Withdrawal(1), book(Some(0), &[])),
             Err(Broken::WaitLost(3))
         );
+    }
+
+    #[test]
+    fn a_handover_serves_the_highest() {
+        let step = |event, after| two_wait().step(event, after);
         let served = |served| Broken::WrongService {
             due: Some(3),
             served,
@@ -532,6 +529,10 @@ mod tests {
             Err(served(Some(0)))
         );
         assert_eq!(step(Event::Handover, book(Some(3), &[1])), Ok(()));
+    }
+
+    #[test]
+    fn a_device_that_is_not_the_books_is_told() {
         assert_eq!(
             two_wait().compare(Some(0), &[false; 5]),
             Err(Broken::DeviceDiffers)
@@ -575,6 +576,43 @@ mod tests {
                 handovers: 5
             })
         );
+    }
+
+    #[test]
+    fn a_wait_that_a_handover_ends_is_told() {
+        let mut watch = two_wait();
+        assert_eq!(watch.served(), None);
+        watch.tell(&access(0, RELEASE), 0).unwrap();
+        let first = Served {
+            x: 3,
+            k: 0,
+            handovers: 1,
+        };
+        assert_eq!(watch.served(), Some(first));
+        watch.tell(&access(4, REQUEST), 0).unwrap();
+        assert_eq!(watch.served(), None);
+        watch.tell(&access(3, RELEASE), 0).unwrap();
+        watch.tell(&access(4, RELEASE), 0).unwrap();
+        let second = Served {
+            x: 1,
+            k: 1,
+            handovers: 3,
+        };
+        assert_eq!(watch.served(), Some(second));
+    }
+
+    #[test]
+    fn a_watch_that_starts_in_the_middle_counts_from_there() {
+        let mut watch = Watch::begun(book(Some(0), &[1, 3]));
+        watch.tell(&access(0, RELEASE), 0).unwrap();
+        watch.tell(&access(3, RELEASE), 0).unwrap();
+        let last = Served {
+            x: 1,
+            k: 0,
+            handovers: 2,
+        };
+        assert_eq!(watch.served(), Some(last));
+        assert_eq!(*watch.book(), book(Some(1), &[]));
     }
 
     #[test]
