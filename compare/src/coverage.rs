@@ -214,11 +214,8 @@ impl Coverage {
 
     fn count_command(&mut self, before: &Before, bench: &Bench, offset: u64, byte: u8) {
         let after = &bench.device;
-        let c = bench.write.len();
         self.event(Event::Run, after.run != before.run);
         self.event(Event::RunWrapped, after.run == 0 && before.run == u32::MAX);
-        let filled = before.phase == Phase::Reception(c as u16);
-        self.event(Event::CommandOfC, filled && after.run != before.run);
         self.event(
             Event::LastHashByte,
             before.open
@@ -231,18 +228,7 @@ impl Coverage {
         let idle = after.phase == Phase::Idle && byte & 0x62 == 0x40;
         match before.phase {
             Phase::Reception(n) => {
-                let beyond = u64::from(n) > before.declared;
-                self.event(Event::RunBeyondSize, beyond && after.run != before.run);
-                let answered = matches!(after.phase, Phase::Completion(..));
-                self.event(Event::BadSize, answered);
-                self.event(
-                    Event::CommandAboveC,
-                    answered && before.declared == c as u64 + 1,
-                );
-                self.event(
-                    Event::CommandFarAbove,
-                    answered && before.declared > u64::from(u16::MAX),
-                );
+                self.count_go(before, bench, n);
                 self.event(Event::AbortReception, idle);
             }
             Phase::Execution(_) => self.event(Event::AbortExecution, idle),
@@ -252,6 +238,19 @@ impl Coverage {
             }
             _ => {}
         }
+    }
+
+    /// What comes of a command of which n bytes were received.
+    fn count_go(&mut self, before: &Before, bench: &Bench, n: u16) {
+        let (after, c) = (&bench.device, bench.write.len() as u64);
+        let run = after.run != before.run;
+        let answered = matches!(after.phase, Phase::Completion(..));
+        self.event(Event::CommandOfC, run && u64::from(n) == c);
+        self.event(Event::RunBeyondSize, run && u64::from(n) > before.declared);
+        self.event(Event::BadSize, answered);
+        self.event(Event::CommandAboveC, answered && before.declared == c + 1);
+        let far = before.declared > u64::from(u16::MAX);
+        self.event(Event::CommandFarAbove, answered && far);
     }
 
     pub fn print(&self) {
