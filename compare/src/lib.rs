@@ -152,9 +152,21 @@ fn report(task: &Task, number: u64, calls: &[Turn]) -> io::Result<()> {
     Ok(())
 }
 
+/// Whether the front begins as the form says, before any call or load.
+fn starts(program: &Path) -> io::Result<bool> {
+    let mut expected = Vec::new();
+    Bench::start().dump(&mut expected);
+    let (output, errors) = front::run(program, b"D")?;
+    Ok(output == expected && errors.is_empty())
+}
+
 /// Compares, saying how far it is. Whether all agreed and nothing was missing.
 pub fn run(task: &Task) -> io::Result<bool> {
     println!("seed {}, {} calls", task.seed, task.calls);
+    if !starts(&task.program)? {
+        println!("the front does not begin with a fresh record and FIFOs of no byte");
+        return Ok(false);
+    }
     match faults::check(&task.program)? {
         Ok(count) => println!("{count} streams with a fault: each refused with its line"),
         Err(text) => {
