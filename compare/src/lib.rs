@@ -31,6 +31,9 @@ use turn::Turn;
 /// The calls that one run of the front plays at least.
 const BATCH: usize = 20_000;
 
+/// From how many calls on all that must be reached has to be.
+const ENOUGH: u64 = 1_000_000;
+
 /// How often a long run says how far it is.
 const PROGRESS: Duration = Duration::from_secs(5);
 
@@ -210,5 +213,5 @@ pub fn run(task: &Task) -> io::Result<bool> {
         task.seed,
         coverage.calls()
     );
-    Ok(missing.is_empty())
+    Ok(missing.is_empty() || task.calls < ENOUGH)
 }

@@ -34,6 +34,9 @@ fn main() {
         calls: number("CALLS", 1_000_000),
         folder: given("ROOM").map_or(target.join("compare-calls"), Into::into),
     };
+    if task.calls == 0 {
+        stop(2, "CALLS is a number from 1 up");
+    }
     if !task.program.is_file() {
         stop(
             2,
