@@ -578,27 +578,21 @@ mod tests {
         );
     }
 
+    fn served(x: u8, k: u64, handovers: u64) -> Option<Served> {
+        Some(Served { x, k, handovers })
+    }
+
     #[test]
     fn a_wait_that_a_handover_ends_is_told() {
         let mut watch = two_wait();
         assert_eq!(watch.served(), None);
         watch.tell(&access(0, RELEASE), 0).unwrap();
-        let first = Served {
-            x: 3,
-            k: 0,
-            handovers: 1,
-        };
-        assert_eq!(watch.served(), Some(first));
+        assert_eq!(watch.served(), served(3, 0, 1));
         watch.tell(&access(4, REQUEST), 0).unwrap();
         assert_eq!(watch.served(), None);
         watch.tell(&access(3, RELEASE), 0).unwrap();
         watch.tell(&access(4, RELEASE), 0).unwrap();
-        let second = Served {
-            x: 1,
-            k: 1,
-            handovers: 3,
-        };
-        assert_eq!(watch.served(), Some(second));
+        assert_eq!(watch.served(), served(1, 1, 3));
     }
 
     #[test]
@@ -606,12 +600,7 @@ mod tests {
         let mut watch = Watch::begun(book(Some(0), &[1, 3]));
         watch.tell(&access(0, RELEASE), 0).unwrap();
         watch.tell(&access(3, RELEASE), 0).unwrap();
-        let last = Served {
-            x: 1,
-            k: 0,
-            handovers: 2,
-        };
-        assert_eq!(watch.served(), Some(last));
+        assert_eq!(watch.served(), served(1, 0, 2));
         assert_eq!(*watch.book(), book(Some(1), &[]));
     }
 
