@@ -1,8 +1,8 @@
 //! What the lists reached: calls by kind and refusal, and the events that must not be missing.
 
-use crate::bench::Bench;
 use crate::offsets;
 use crate::records::CLAUSES;
+use crate::state::State;
 use crate::turn::{Turn, KINDS, REFUSALS};
 use yardstick::book::{bound, Served};
 use yardstick::call::Call;
@@ -22,9 +22,9 @@ pub struct Before {
 }
 
 impl Before {
-    pub fn of(bench: &Bench) -> Before {
-        let device = &bench.device;
-        let size = bench.write.get(2..6).unwrap_or(&[]);
+    pub fn of(state: &State) -> Before {
+        let device = &state.device;
+        let size = state.write.get(2..6).unwrap_or(&[]);
         Before {
             active: device.active,
             waiting: device.waiting,
@@ -129,7 +129,7 @@ impl Coverage {
         before: &Before,
         turn: &Turn,
         refusal: u8,
-        after: &Bench,
+        after: &State,
         outcome: &[u8],
     ) {
         self.refusals[turn.kind()][usize::from(refusal)] += 1;
@@ -139,11 +139,11 @@ impl Coverage {
         self.count_byte(turn, refusal);
         self.most_waiting = self.most_waiting.max(number(&device.waiting));
         match turn {
-            Turn::Load { note, bench } => {
+            Turn::Load { note, state } => {
                 if let Some((clause, met)) = note {
                     self.clauses[*clause as usize][usize::from(*met)] += 1;
                 }
-                let (write, read) = (bench.write.len(), bench.read.len());
+                let (write, read) = (state.write.len(), state.read.len());
                 self.lengths[usize::from(write == read)] += 1;
             }
             Turn::Made(Call::Respond { answer, .. }) => {
@@ -212,8 +212,8 @@ impl Coverage {
         );
     }
 
-    fn count_command(&mut self, before: &Before, bench: &Bench, offset: u64, byte: u8) {
-        let after = &bench.device;
+    fn count_command(&mut self, before: &Before, state: &State, offset: u64, byte: u8) {
+        let after = &state.device;
         self.event(Event::Run, after.run != before.run);
         self.event(Event::RunWrapped, after.run == 0 && before.run == u32::MAX);
         self.event(
@@ -228,7 +228,7 @@ impl Coverage {
         let idle = after.phase == Phase::Idle && byte & 0x62 == 0x40;
         match before.phase {
             Phase::Reception(n) => {
-                self.count_go(before, bench, n);
+                self.count_go(before, state, n);
                 self.event(Event::AbortReception, idle);
             }
             Phase::Execution(_) => self.event(Event::AbortExecution, idle),
@@ -241,8 +241,8 @@ impl Coverage {
     }
 
     /// What comes of a command of which n bytes were received.
-    fn count_go(&mut self, before: &Before, bench: &Bench, n: u16) {
-        let (after, c) = (&bench.device, bench.write.len() as u64);
+    fn count_go(&mut self, before: &Before, state: &State, n: u16) {
+        let (after, c) = (&state.device, state.write.len() as u64);
         let run = after.run != before.run;
         let answered = matches!(after.phase, Phase::Completion(..));
         self.event(Event::CommandOfC, run && u64::from(n) == c);

@@ -1,8 +1,8 @@
 //! One list looked at closely: the first call after which the front, the yardstick and the waiting book do not agree.
 
-use crate::bench::{BANK, IMAGE, PARTS};
 use crate::follow::Follower;
 use crate::front;
+use crate::state::{BANK, IMAGE, PARTS};
 use crate::turn::{hex, Turn};
 use std::fmt;
 use std::io;
@@ -172,9 +172,9 @@ pub fn examine(program: &Path, turns: &[Turn]) -> io::Result<Option<Difference>>
     let mut rows = Vec::new();
     for turn in turns {
         let mut expected = Vec::new();
-        follower.bench.play(turn, &mut expected);
+        follower.state.play(turn, &mut expected);
         let mut dump = Vec::new();
-        follower.bench.dump(&mut dump);
+        follower.state.dump(&mut dump);
         let got = output.outcome(turn).zip(output.dump());
         rows.push(Row {
             call: turn.to_string(),

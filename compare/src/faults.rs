@@ -1,20 +1,22 @@
-//! Streams that are no list of calls: each gets one line, and nothing behind the fault is played.
+//! Streams that are no list of calls: each gets one line, and nothing after the fault is played. And an input or an output that fails.
 
 use crate::front;
+use std::fs::File;
 use std::io;
 use std::path::Path;
+use std::process::Stdio;
 
 /// A load of a record of no flags with one byte changed, and FIFOs of these lengths, as far as there are bytes.
 fn load(place: usize, byte: u8, write: u16, read: u16) -> Vec<u8> {
     let mut bytes = vec![b'S'];
-    bytes.resize(1 + crate::bench::IMAGE, 0);
+    bytes.resize(1 + crate::state::IMAGE, 0);
     bytes[1 + place] = byte;
     bytes.extend(write.to_le_bytes());
     bytes.extend(read.to_le_bytes());
     bytes
 }
 
-/// The bytes behind an interrupt line question, and what is said of them.
+/// The bytes after an interrupt line question, and what is said of them.
 fn streams() -> Vec<(Vec<u8>, &'static str)> {
     let cut = "cut short";
     let mut streams: Vec<(Vec<u8>, &str)> = vec![
@@ -49,6 +51,22 @@ fn streams() -> Vec<(Vec<u8>, &'static str)> {
     streams
 }
 
+/// What is said of an input that cannot be read, a directory, and of an output that cannot be written, a full device.
+fn failures(program: &Path) -> io::Result<[(String, &'static str); 2]> {
+    let directory = File::open("/")?;
+    let full = File::options().write(true).open("/dev/full")?;
+    Ok([
+        (
+            front::complaint(program, directory.into(), Stdio::null(), b"")?,
+            "replay: call 1: standard input cannot be read\n",
+        ),
+        (
+            front::complaint(program, Stdio::piped(), full.into(), b"L")?,
+            "replay: call 2: standard output cannot be written\n",
+        ),
+    ])
+}
+
 /// Whether each is answered as it must be; a stream that is not is named.
 pub fn check(program: &Path) -> io::Result<Result<usize, String>> {
     let streams = streams();
@@ -64,5 +82,10 @@ pub fn check(program: &Path) -> io::Result<Result<usize, String>> {
             )));
         }
     }
-    Ok(Ok(streams.len()))
+    for (said, expected) in failures(program)? {
+        if said != expected {
+            return Ok(Err(format!("said {said:?}, not {expected:?}")));
+        }
+    }
+    Ok(Ok(streams.len() + 2))
 }

@@ -1,14 +1,14 @@
 //! The yardstick and the waiting book, one call after the other beside the front.
 
-use crate::bench::Bench;
 use crate::records::Clause;
+use crate::state::State;
 use crate::turn::Turn;
 use yardstick::book::{Book, Served, Watch};
 use yardstick::call::Call;
 use yardstick::device::FIFO_LENGTHS;
 
 pub struct Follower {
-    pub bench: Bench,
+    pub state: State,
     /// Kept from the first power-on on, or from a load of a record in shape.
     watch: Option<Watch>,
     note: Option<(Clause, bool)>,
@@ -17,16 +17,16 @@ pub struct Follower {
 impl Follower {
     pub fn new() -> Follower {
         Follower {
-            bench: Bench::start(),
+            state: State::start(),
             watch: None,
             note: None,
         }
     }
 
-    /// Plays a turn on the yardstick and puts its outcome and the dump behind it; gives the refusal number.
+    /// Plays a turn on the yardstick and puts its outcome and the dump after it; gives the refusal number.
     pub fn play(&mut self, turn: &Turn, out: &mut Vec<u8>) -> u8 {
-        let refusal = self.bench.play(turn, out);
-        self.bench.dump(out);
+        let refusal = self.state.play(turn, out);
+        self.state.dump(out);
         refusal
     }
 
@@ -42,7 +42,7 @@ impl Follower {
             Turn::Made(Call::PowerOn { .. }) => {
                 self.watch = Some(self.watch.take().unwrap_or_default());
             }
-            Turn::Load { bench, note } => (self.watch, self.note) = (begun(bench), *note),
+            Turn::Load { state, note } => (self.watch, self.note) = (begun(state), *note),
             Turn::Made(_) => {}
         }
         if let (Some(watch), Turn::Made(call)) = (&mut self.watch, turn) {
@@ -79,7 +79,7 @@ impl Follower {
             return Ok(());
         };
         let due = if met { 0 } else { 6 };
-        if refusal == due || !FIFO_LENGTHS.contains(&self.bench.write.len()) {
+        if refusal == due || !FIFO_LENGTHS.contains(&self.state.write.len()) {
             return Ok(());
         }
         Err(format!(
@@ -89,9 +89,9 @@ impl Follower {
 }
 
 /// A book that starts with a loaded record, where the front accepts it.
-fn begun(bench: &Bench) -> Option<Watch> {
-    let device = &bench.device;
-    let accepted = device.window(&bench.write, &bench.read).0 == 0;
+fn begun(state: &State) -> Option<Watch> {
+    let device = &state.device;
+    let accepted = device.window(&state.write, &state.read).0 == 0;
     accepted.then(|| {
         Watch::begun(Book {
             active: device.active,

@@ -9,7 +9,7 @@ use std::thread;
 /// The bytes that a read of the pipe may bring at once.
 const ROOM: usize = 1 << 18;
 
-/// The turns with a dump behind each.
+/// The turns with a dump after each.
 pub fn encode<'a>(turns: impl Iterator<Item = &'a Turn>) -> Vec<u8> {
     let mut input = Vec::new();
     for turn in turns {
@@ -65,4 +65,18 @@ pub fn run(program: &Path, input: &[u8]) -> io::Result<(Vec<u8>, String)> {
     stderr.read_to_string(&mut errors)?;
     child.wait()?;
     Ok((out, errors))
+}
+
+/// What the program says on standard error with these as input and output; the bytes go into an input that is a pipe.
+pub fn complaint(program: &Path, input: Stdio, output: Stdio, bytes: &[u8]) -> io::Result<String> {
+    let mut child = Command::new(program)
+        .stdin(input)
+        .stdout(output)
+        .stderr(Stdio::piped())
+        .spawn()?;
+    if let Some(mut stdin) = child.stdin.take() {
+        stdin.write_all(bytes)?;
+    }
+    let said = child.wait_with_output()?.stderr;
+    Ok(String::from_utf8_lossy(&said).into_owned())
 }

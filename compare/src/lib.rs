@@ -4,7 +4,6 @@
 //! and n alone.
 #![forbid(unsafe_code)]
 
-mod bench;
 mod coverage;
 mod examine;
 mod faults;
@@ -16,12 +15,13 @@ mod records;
 mod scene;
 mod scenes;
 mod shrink;
+mod state;
 mod turn;
 
-use bench::Bench;
 use coverage::{Before, Coverage};
 use follow::Follower;
 use random::Random;
+use state::State;
 use std::fs;
 use std::io::{self, BufRead};
 use std::path::{Path, PathBuf};
@@ -74,17 +74,17 @@ fn follow(reader: &mut impl BufRead, calls: &[Turn], coverage: &mut Coverage) ->
     let mut expected = Vec::new();
     for call in calls {
         expected.clear();
-        let before = Before::of(&follower.bench);
+        let before = Before::of(&follower.state);
         let refusal = follower.play(call, &mut expected);
         if !same(reader, &expected)? {
             return Ok(false);
         }
         // The front's record was just found to be the yardstick's.
-        let (active, waiting) = (follower.bench.device.active, follower.bench.device.waiting);
+        let (active, waiting) = (follower.state.device.active, follower.state.device.waiting);
         if follower.enter(call, refusal, active, &waiting).is_err() {
             return Ok(false);
         }
-        coverage.count(&before, call, refusal, &follower.bench, &expected);
+        coverage.count(&before, call, refusal, &follower.state, &expected);
         coverage.count_wait(follower.served());
     }
     Ok(true)
@@ -112,15 +112,15 @@ fn compare(
 
 /// The last call alone, on the record and the FIFOs that it found.
 fn last_call(calls: &[Turn]) -> Vec<Turn> {
-    let mut bench = Bench::start();
+    let mut state = State::start();
     let Some((last, before)) = calls.split_last() else {
         return Vec::new();
     };
     for call in before {
-        bench.play(call, &mut Vec::new());
+        state.play(call, &mut Vec::new());
     }
-    let bench = Box::new(bench);
-    vec![Turn::Load { bench, note: None }, last.clone()]
+    let state = Box::new(state);
+    vec![Turn::Load { state, note: None }, last.clone()]
 }
 
 /// Shows the shortest failing list found and keeps it.
@@ -158,7 +158,7 @@ fn report(task: &Task, number: u64, calls: &[Turn]) -> io::Result<()> {
 /// Whether the front begins as the form says, before any call or load.
 fn starts(program: &Path) -> io::Result<bool> {
     let mut expected = Vec::new();
-    Bench::start().dump(&mut expected);
+    State::start().dump(&mut expected);
     let (output, errors) = front::run(program, b"D")?;
     Ok(output == expected && errors.is_empty())
 }
@@ -171,9 +171,9 @@ pub fn run(task: &Task) -> io::Result<bool> {
         return Ok(false);
     }
     match faults::check(&task.program)? {
-        Ok(count) => println!("{count} streams with a fault: each refused with its line"),
+        Ok(count) => println!("{count} streams with a fault, or with an input or output that fails: each named by its line"),
         Err(text) => {
-            println!("a stream with a fault is not refused as it must be: {text}");
+            println!("a fault is not named as it must be: {text}");
             return Ok(false);
         }
     }

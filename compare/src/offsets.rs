@@ -1,4 +1,4 @@
-//! The offsets at which registers lie, with those between them and one behind, and the identity bytes with one on either side.
+//! The offsets at which registers lie, with those between them and one after, and the identity bytes with one on either side.
 
 const PAGES: u64 = 5;
 const LOW: u64 = 0x030;
@@ -19,13 +19,13 @@ pub fn all() -> impl Iterator<Item = u64> {
 /// The place of one among all.
 pub fn place(offset: u64) -> Option<usize> {
     let (page, within) = (offset >> 12, offset & 0xfff);
-    let behind = match within {
+    let place = match within {
         _ if page >= PAGES => return None,
         0..LOW => within,
         _ if IDENTITY.contains(&within) => LOW + within - IDENTITY.start,
         _ => return None,
     };
-    Some((page * EACH + behind) as usize)
+    Some((page * EACH + place) as usize)
 }
 
 #[cfg(test)]

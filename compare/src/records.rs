@@ -1,7 +1,7 @@
 //! Records near the shape rule: each clause of document 01's list just met and just broken.
 
-use crate::bench::Bench;
 use crate::random::Random;
+use crate::state::State;
 use std::fmt;
 use yardstick::device::{GREATEST_C, MOST_HASH_BYTES};
 use yardstick::sha1::Sha1;
@@ -77,7 +77,7 @@ pub fn causes(random: &Random) -> Causes {
 
 /// In shape, nobody active: what no clause looks at is random.
 pub fn free(random: &Random) -> Device {
-    let mut device = Bench::start().device;
+    let mut device = State::start().device;
     device.seized = std::array::from_fn(|_| random.coin());
     device.enable = IntEnable {
         global: random.coin(),
@@ -99,7 +99,7 @@ pub fn held(random: &Random, x: u8) -> Device {
     device
 }
 
-/// In shape: a sequence open with `count` bytes, and any bytes behind those that fill no block.
+/// In shape: a sequence open with `count` bytes, and any bytes after those that fill no block.
 pub fn open(random: &Random, count: u32) -> Device {
     let mut device = held(random, 4);
     let stream = Sha1 {

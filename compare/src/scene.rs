@@ -1,8 +1,8 @@
 //! A list of calls in the making: the yardstick plays along, so that a scene knows whose turn it is.
 
-use crate::bench::Bench;
 use crate::random::Random;
 use crate::records;
+use crate::state::State;
 use crate::turn::Turn;
 use yardstick::call::Call;
 use yardstick::Device;
@@ -12,7 +12,7 @@ pub const STS: u64 = 0x018;
 pub const BURST_COUNT: u64 = 0x019;
 pub const FIFO: u64 = 0x024;
 
-/// The first and last offset of each register, and one before and behind it.
+/// The first and last offset of each register, and one before and after it.
 pub const WITHIN: [u64; 34] = [
     0x000, 0x000, 0x001, 0x007, 0x008, 0x009, 0x00b, 0x00c, 0x00d, 0x00f, 0x010, 0x011, 0x013,
     0x014, 0x015, 0x017, 0x018, 0x018, 0x019, 0x01a, 0x01b, 0x01f, 0x020, 0x023, 0x024, 0x024,
@@ -33,7 +33,7 @@ pub fn at(x: u8, within: u64) -> u64 {
 
 pub struct Scene<'a> {
     pub random: &'a Random,
-    pub bench: Bench,
+    pub state: State,
     pub turns: Vec<Turn>,
     outcome: Vec<u8>,
 }
@@ -42,7 +42,7 @@ impl Scene<'_> {
     pub fn new(random: &Random) -> Scene<'_> {
         Scene {
             random,
-            bench: Bench::start(),
+            state: State::start(),
             turns: Vec::new(),
             outcome: Vec::new(),
         }
@@ -51,7 +51,7 @@ impl Scene<'_> {
     pub fn call(&mut self, turn: impl Into<Turn>) -> u8 {
         let turn = turn.into();
         self.outcome.clear();
-        let refusal = self.bench.play(&turn, &mut self.outcome);
+        let refusal = self.state.play(&turn, &mut self.outcome);
         self.turns.push(turn);
         refusal
     }
@@ -69,12 +69,12 @@ impl Scene<'_> {
     }
 
     pub fn load(&mut self, device: Device, write: Vec<u8>, read: Vec<u8>) {
-        let bench = Box::new(Bench {
+        let state = Box::new(State {
             device,
             write,
             read,
         });
-        self.call(Turn::Load { bench, note: None });
+        self.call(Turn::Load { state, note: None });
     }
 
     /// Mostly the least C, which is the fastest to fill.
@@ -113,7 +113,7 @@ impl Scene<'_> {
     }
 
     pub fn active(&mut self) -> u8 {
-        match self.bench.device.active {
+        match self.state.device.active {
             Some(x) if x < 5 => x,
             _ => self.random.locality(),
         }
@@ -127,7 +127,7 @@ impl Scene<'_> {
     }
 
     pub fn any_answer(&mut self) -> Vec<u8> {
-        let c = self.bench.read.len();
+        let c = self.state.read.len();
         let length = match self.random.below(8) {
             0 => self.any_length(),
             1 => c,
@@ -141,7 +141,7 @@ impl Scene<'_> {
     }
 
     pub fn any_run(&mut self) -> u32 {
-        let run = self.bench.device.run;
+        let run = self.state.device.run;
         match self.random.below(8) {
             0 => run.wrapping_sub(1),
             1 => run.wrapping_add(1),

@@ -1,6 +1,6 @@
 //! A failing list made shorter and simpler: calls are left out, then their arguments replaced.
 
-use crate::bench::Bench;
+use crate::state::State;
 use crate::turn::Turn;
 use yardstick::call::Call;
 use yardstick::{HashSequence, Phase};
@@ -78,7 +78,7 @@ fn simplify(best: &mut Vec<Turn>, try_list: &mut Try) -> bool {
 fn simpler(turn: &Turn) -> Vec<Turn> {
     match turn {
         Turn::Made(call) => simpler_calls(call).into_iter().map(Turn::Made).collect(),
-        Turn::Load { bench, .. } => loads(bench),
+        Turn::Load { state, .. } => loads(state),
     }
 }
 
@@ -116,12 +116,12 @@ fn write_forms(offset: u64, byte: u8) -> Vec<Call> {
 }
 
 /// One part of the record at a time as a power-on leaves it.
-fn loads(bench: &Bench) -> Vec<Turn> {
-    let fresh = Bench::start().device;
-    let c = bench.write.len();
-    let edits: [&dyn Fn(&mut Bench); 16] = [
-        &|b| *b = Bench::fresh(1024, 0),
-        &|b| *b = Bench::fresh(c, 0),
+fn loads(state: &State) -> Vec<Turn> {
+    let fresh = State::start().device;
+    let c = state.write.len();
+    let edits: [&dyn Fn(&mut State); 16] = [
+        &|b| *b = State::fresh(1024, 0),
+        &|b| *b = State::fresh(c, 0),
         &|b| b.device.pcrs = fresh.pcrs,
         &|b| b.device.waiting = [false; 5],
         &|b| b.device.seized = [false; 5],
@@ -137,11 +137,11 @@ fn loads(bench: &Bench) -> Vec<Turn> {
         &|b| b.write.fill(0),
         &|b| b.read.fill(0),
     ];
-    let edited = |edit: &dyn Fn(&mut Bench)| {
-        let mut after = bench.clone();
+    let edited = |edit: &dyn Fn(&mut State)| {
+        let mut after = state.clone();
         edit(&mut after);
         Turn::Load {
-            bench: Box::new(after),
+            state: Box::new(after),
             note: None,
         }
     };

@@ -1,7 +1,7 @@
 //! A turn of a list, a call or a load: in the form that `replay` takes, and as a line of text.
 
-use crate::bench::Bench;
 use crate::records::Clause;
+use crate::state::State;
 use std::fmt;
 use yardstick::call::Call;
 
@@ -11,7 +11,7 @@ pub enum Turn {
     Made(Call),
     /// No call of the front: any record and FIFOs. The note says which clause of the shape rule the record just meets or breaks.
     Load {
-        bench: Box<Bench>,
+        state: Box<State>,
         note: Option<(Clause, bool)>,
     },
 }
@@ -73,9 +73,9 @@ impl Turn {
     pub fn encode(&self, out: &mut Vec<u8>) {
         match self {
             Turn::Made(call) => encode(call, out),
-            Turn::Load { bench, .. } => {
+            Turn::Load { state, .. } => {
                 out.push(b'S');
-                bench.dump(out);
+                state.dump(out);
             }
         }
     }
@@ -131,7 +131,7 @@ impl fmt::Display for Turn {
     fn fmt(&self, f: &mut fmt::Formatter<'_>) -> fmt::Result {
         match self {
             Turn::Made(call) => show_call(f, call),
-            Turn::Load { bench, note } => show_load(f, bench, *note),
+            Turn::Load { state, note } => show_load(f, state, *note),
         }
     }
 }
@@ -169,11 +169,11 @@ fn show_call(f: &mut fmt::Formatter<'_>, call: &Call) -> fmt::Result {
 /// What of the record is not as a power-on leaves it, and the FIFOs.
 fn show_load(
     f: &mut fmt::Formatter<'_>,
-    bench: &Bench,
+    state: &State,
     note: Option<(Clause, bool)>,
 ) -> fmt::Result {
-    let fresh = Bench::start().device;
-    let d = &bench.device;
+    let fresh = State::start().device;
+    let d = &state.device;
     write!(f, "load")?;
     if let Some((clause, met)) = note {
         write!(
@@ -222,8 +222,8 @@ fn show_load(
     for (_, text) in parts.into_iter().filter(|(shown, _)| *shown) {
         write!(f, ", {text}")?;
     }
-    show_fifo(f, "WriteFIFO", &bench.write)?;
-    show_fifo(f, "ReadFIFO", &bench.read)
+    show_fifo(f, "WriteFIFO", &state.write)?;
+    show_fifo(f, "ReadFIFO", &state.read)
 }
 
 fn show_fifo(f: &mut fmt::Formatter<'_>, name: &str, bytes: &[u8]) -> fmt::Result {

@@ -18,7 +18,7 @@ const FAR_ABOVE: [u32; 6] = [
 
 impl Scene<'_> {
     fn any_size(&mut self) -> u32 {
-        let c = self.bench.write.len() as u32;
+        let c = self.state.write.len() as u32;
         match self.random.below(12) {
             0 => self.random.pick(&[c - 1, c, c + 1]),
             1 => self.random.below(13) as u32,
@@ -53,7 +53,7 @@ impl Scene<'_> {
 
     /// Sends a command by the active locality, byte by byte.
     fn send(&mut self, x: u8, size: u32) {
-        let c = self.bench.write.len() as u32;
+        let c = self.state.write.len() as u32;
         let whole = size.clamp(6, c);
         let more = self.random.pick(&[0, 0, 0, 1, 3]);
         for n in 0..whole + more {
@@ -77,7 +77,7 @@ impl Scene<'_> {
     /// Answers while a run is under way, and now and then one more.
     fn respond(&mut self) {
         for _ in 0..4 {
-            let executing = matches!(self.bench.device.phase, Phase::Execution(_));
+            let executing = matches!(self.state.device.phase, Phase::Execution(_));
             if executing || self.random.once_in(8) {
                 self.answer();
             }
@@ -86,7 +86,7 @@ impl Scene<'_> {
 
     /// Reads some of the answer, all of it, or more, and starts over now and then.
     fn read_answer(&mut self, x: u8) {
-        let Phase::Completion(length, _) = self.bench.device.phase else {
+        let Phase::Completion(length, _) = self.state.device.phase else {
             return;
         };
         let most = if self.random.coin() {

@@ -55,19 +55,23 @@ impl Scene<'_> {
         }
     }
 
-    /// Before x is served, each higher locality is served once and, after another `k` requests, `k` times more.
+    /// Before x is served, each higher locality is served once and, after another `k` requests, `k` times more. There are as many handovers
+    /// as the bound allows, and no more: a device that never serves x ends the list too.
     fn longest_wait(&mut self, x: u8, k: u32) {
         self.access(u8::from(x == 0), REQUEST_USE);
         for y in (x..5).rev() {
             self.access(y, REQUEST_USE);
         }
         let mut left = [k; 5];
-        while self.bench.device.active != Some(x) {
+        for _ in 0..u32::from(4 - x) * (k + 1) + 1 {
+            if self.state.device.active == Some(x) {
+                return;
+            }
             self.hand_over();
             // The lowest of them asks again while another holds the device, the others while it does.
-            let lowest = self.bench.device.active == Some(x + 1);
+            let lowest = self.state.device.active == Some(x + 1);
             for y in x + 1..5 {
-                let waits = self.bench.device.waiting[usize::from(y)];
+                let waits = self.state.device.waiting[usize::from(y)];
                 if left[usize::from(y)] > 0 && !waits && lowest == (y > x + 1) {
                     left[usize::from(y)] -= 1;
                     self.access(y, REQUEST_USE);
@@ -97,6 +101,24 @@ impl Scene<'_> {
             0 => self.question(),
             1 => self.read(at(self.random.locality(), ACCESS)),
             _ => {}
+        }
+    }
+}
+
+#[cfg(test)]
+mod tests {
+    use super::*;
+    use crate::random::Random;
+
+    /// FIFOs of no byte: every call is refused, as by a device that refuses everything.
+    #[test]
+    fn a_wait_on_a_device_that_refuses_everything_ends() {
+        let random = Random::seeded(1);
+        for k in 0..3 {
+            let mut scene = Scene::new(&random);
+            scene.longest_wait(0, k);
+            assert_eq!(scene.state.device.active, None);
+            assert!(scene.turns.len() < 100);
         }
     }
 }

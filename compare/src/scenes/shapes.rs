@@ -1,8 +1,8 @@
 //! Records near the shape rule, and FIFOs of odd lengths.
 
-use crate::bench::Bench;
 use crate::records::{self, CLAUSES};
 use crate::scene::Scene;
+use crate::state::State;
 use crate::turn::Turn;
 use yardstick::call::Call;
 
@@ -19,13 +19,13 @@ impl Scene<'_> {
                 true => (self.any_length(), self.any_length()),
                 false => (c, c),
             };
-            let bench = Box::new(Bench {
+            let state = Box::new(State {
                 device,
                 write: self.fifo(write),
                 read: self.fifo(read),
             });
             let note = (!odd).then_some((clause, met));
-            self.call(Turn::Load { bench, note });
+            self.call(Turn::Load { state, note });
             self.call(Call::Window);
             if self.random.coin() {
                 self.call(Call::PcrValue { pcr: 17 });

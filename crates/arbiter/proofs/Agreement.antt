@@ -1,6 +1,6 @@
 -- The rules keep the model: what each rule leaves of the arbiter state agrees with the model's step. Assumes nothing.
 use mathlib.Core.Path.{_≡_, refl, sym, ap, _∙_, subst, fun-ext}
-use mathlib.Core.Bool.{Bool, true, false, cond, _||_}
+use mathlib.Core.Bool.{Bool, true, false, cond, true≢false}
 use mathlib.Core.List.{List}
 use Prim.Native.Nat.{ℕ, zero, suc, _+_, _<_}
 use lib.ListN.{length, getD, set, replicate, length-set}
@@ -11,14 +11,16 @@ use Rattle.arbiter.specs.declared.Locality.{Locality}
 use Rattle.arbiter.specs.declared.Owner.{Owner}
 use Rattle.arbiter.specs.declared.Owner.the-variants.{Nobody, Held}
 use Rattle.arbiter.specs.declared.Arbiter.{Arbiter}
-use Rattle.arbiter.specs.declared.AccessCommand.the-variants.{Nothing, RequestUse, Release, Seize, ClearSeized}
-use Rattle.waiting.specs.Bits.{bit}
+use Rattle.arbiter.specs.declared.access.AccessCommand.{AccessCommand}
+use Rattle.arbiter.specs.declared.access.AccessCommand.the-variants.{Nothing, RequestUse, ActiveLocality, Seize, BeenSeized}
+use Rattle.bits.specs.Bits.{bit}
+use Rattle.arbiter.specs.State.{locality, freshArbiter, withActive, withWaiting, withSeized, waits, holds}
 use Rattle.arbiter.specs.Rules as rule
-use Rattle.arbiter.specs.Rules.{locality, freshArbiter, withActive, withWaiting, withSeized, quietly, emptying, waits, holds, handTo, handedOver, commandOf, requestWith, requested, released, seizeWith, seizedBy, seizedCleared, obeyed, accessWritten, startWith, hashStarted, hashEnded}
-use Rattle.waiting.specs.Model.{Model, Holder, free, held, hashStart, hashEnd, access, nothing, requestUse, release, seize, clearSeized, accessEvent, put, highestBelow, highest, handover, acquire, wait, withdraw, started, start, obey, shut, step, fresh}
+use Rattle.arbiter.specs.Rules.{keepsCommand, abortsCommand, nextOwner, handTo, accessCommand, requestFrom, seizeFrom, clearSeized, commanded, writeAccess, startCounts}
+use Rattle.arbiter_model.specs.Model.{Model, Holder, free, held, Event, hashStart, hashEnd, access, nothing, requestUse, activeLocality, seize, beenSeized, accessEvent, put, highestBelow, highest, handover, acquire, wait, withdraw, started, start, accessStep, ignoresPage, step, fresh}
 use Rattle.arbiter.specs.Agreement.{holder, Agrees}
-use Rattle.waiting.proofs.ModelLaws.{highest-held}
-use Rattle.waiting.proofs.Invariant.{Sound}
+use Rattle.arbiter_model.proofs.ModelLaws.{highest-held}
+use Rattle.arbiter_model.proofs.Invariant.{Sound}
 
 -- ---- flags
 
@@ -37,6 +39,28 @@ highest-agrees (suc n) l = by (getD l n false) (highest-agrees n l)
         → cond t (held n) (highestBelow n (λ y. getD l y false)) ≡ holder (cond t (Held (locality n)) (rule.highestBelow n l))
     by true ih = refl
     by false ih = ih
+
+-- the event of a command of ACCESS in page x
+abbrev pub commandEvent : ℕ → AccessCommand → Event
+commandEvent x Nothing = nothing
+commandEvent x RequestUse = access x requestUse
+commandEvent x ActiveLocality = access x activeLocality
+commandEvent x Seize = access x seize
+commandEvent x BeenSeized = access x beenSeized
+
+-- the model and the rules read a byte written to ACCESS alike
+pub event-command : (x v : ℕ) → accessEvent x v ≡ commandEvent x (accessCommand v)
+unfolding accessCommand
+event-command x v = by (eqb (bit 5 v + bit 4 v + bit 3 v + bit 1 v) 1) (eqb (bit 1 v) 1) (eqb (bit 5 v) 1) (eqb (bit 3 v) 1)
+  where
+    by : (t₁ t₂ t₃ t₄ : Bool)
+        → cond t₁ (cond t₂ (access x requestUse) (cond t₃ (access x activeLocality) (cond t₄ (access x seize) (access x beenSeized)))) nothing
+        ≡ commandEvent x (cond t₁ (cond t₂ RequestUse (cond t₃ ActiveLocality (cond t₄ Seize BeenSeized))) Nothing)
+    by true true t₃ t₄ = refl
+    by true false true t₄ = refl
+    by true false false true = refl
+    by true false false false = refl
+    by false t₂ t₃ t₄ = refl
 
 -- power-on and reset
 pub agree-fresh : Agrees fresh freshArbiter false
@@ -63,14 +87,14 @@ module _ {m : Model} {s : Arbiter} {o : Bool} (a : Agrees m s o) where
   pub unmarked : (x : ℕ) (v : Bool) → Agrees m (withSeized s x v) o
   unmarked x v = record { active = a .active; flags = a .flags; sequenceOpen = a .sequenceOpen; flagCount = a .flagCount }
 
-  is-highest : highest (m .waiting) ≡ holder (rule.highest (s .waiting))
+  is-highest : highest (m .waiting) ≡ holder (nextOwner (s .waiting))
   is-highest = ap highest (fun-ext (a .flags)) ∙ highest-agrees 5 (s .waiting)
 
   -- ---- handover
 
-  pub agree-handover : Agrees (handover m) (handedOver s .arbiter) o
-  unfolding handedOver
-  agree-handover = by (rule.highest (s .waiting)) is-highest
+  pub agree-handover : Agrees (handover m) (rule.handover s .arbiter) o
+  unfolding rule.handover
+  agree-handover = by (nextOwner (s .waiting)) is-highest
     where
       by : (w : Owner) → highest (m .waiting) ≡ holder w → Agrees (handover m) (handTo w s .arbiter) o
       by Nobody e = rw e (own Nobody)
@@ -82,41 +106,41 @@ module _ {m : Model} {s : Arbiter} {o : Bool} (a : Agrees m s o) where
   -- ---- the four bits of ACCESS
 
   module _ (x : Locality) (l : x .0 < 5) where
-    agree-withdraw : Agrees (cond (m .waiting (x .0)) (withdraw (x .0) m) m) (cond (waits s (x .0)) (quietly (withWaiting s (x .0) false)) (quietly s) .arbiter) o
+    agree-withdraw : Agrees (cond (m .waiting (x .0)) (withdraw (x .0) m) m) (cond (waits s (x .0)) (keepsCommand (withWaiting s (x .0) false)) (keepsCommand s) .arbiter) o
     agree-withdraw = rw (a .flags (x .0)) (by (waits s (x .0)))
       where
-        by : (t : Bool) → Agrees (cond t (withdraw (x .0) m) m) (cond t (quietly (withWaiting s (x .0) false)) (quietly s) .arbiter) o
+        by : (t : Bool) → Agrees (cond t (withdraw (x .0) m) m) (cond t (keepsCommand (withWaiting s (x .0) false)) (keepsCommand s) .arbiter) o
         by true = put-flag (x .0) false l
         by false = a
 
-    agree-request : Agrees (obey requestUse (m .active) (x .0) m) (requested s x .arbiter) o
-    unfolding requested
-    agree-request = subst (λ (h : Holder). Agrees (obey requestUse h (x .0) m) (requested s x .arbiter) o) (sym (a .active)) (by (s .active))
+    agree-request : Agrees (accessStep requestUse (m .active) (x .0) m) (rule.request s x .arbiter) o
+    unfolding rule.request
+    agree-request = subst (λ (h : Holder). Agrees (accessStep requestUse h (x .0) m) (rule.request s x .arbiter) o) (sym (a .active)) (by (s .active))
       where
-        by : (w : Owner) → Agrees (obey requestUse (holder w) (x .0) m) (requestWith w s x .arbiter) o
+        by : (w : Owner) → Agrees (accessStep requestUse (holder w) (x .0) m) (requestFrom w s x .arbiter) o
         by Nobody = own (Held x)
         by (Held y) = at (eqb (y .0) (x .0))
           where
-            at : (t : Bool) → Agrees (cond t m (wait (x .0) m)) (cond t (quietly s) (quietly (withWaiting s (x .0) true)) .arbiter) o
+            at : (t : Bool) → Agrees (cond t m (wait (x .0) m)) (cond t (keepsCommand s) (keepsCommand (withWaiting s (x .0) true)) .arbiter) o
             at true = a
             at false = put-flag (x .0) true l
 
-    agree-release : Agrees (obey release (m .active) (x .0) m) (released s x .arbiter) o
-    unfolding released
-    agree-release = subst (λ (h : Holder). Agrees (obey release h (x .0) m) (released s x .arbiter) o) (sym (a .active)) (by (s .active))
+    agree-release : Agrees (accessStep activeLocality (m .active) (x .0) m) (rule.release s x .arbiter) o
+    unfolding rule.release
+    agree-release = subst (λ (h : Holder). Agrees (accessStep activeLocality h (x .0) m) (rule.release s x .arbiter) o) (sym (a .active)) (by (s .active))
       where
-        by : (w : Owner) → Agrees (obey release (holder w) (x .0) m) (cond (holds w x) (handedOver s) (cond (waits s (x .0)) (quietly (withWaiting s (x .0) false)) (quietly s)) .arbiter) o
+        by : (w : Owner) → Agrees (accessStep activeLocality (holder w) (x .0) m) (cond (holds w x) (rule.handover s) (cond (waits s (x .0)) (keepsCommand (withWaiting s (x .0) false)) (keepsCommand s)) .arbiter) o
         by Nobody = agree-withdraw
         by (Held y) = at (eqb (y .0) (x .0))
           where
-            at : (t : Bool) → Agrees (cond t (handover m) (cond (m .waiting (x .0)) (withdraw (x .0) m) m)) (cond t (handedOver s) (cond (waits s (x .0)) (quietly (withWaiting s (x .0) false)) (quietly s)) .arbiter) o
+            at : (t : Bool) → Agrees (cond t (handover m) (cond (m .waiting (x .0)) (withdraw (x .0) m) m)) (cond t (rule.handover s) (cond (waits s (x .0)) (keepsCommand (withWaiting s (x .0) false)) (keepsCommand s)) .arbiter) o
             at true = agree-handover
             at false = agree-withdraw
 
     -- where the device is free nobody waits, so a seizure is as a request
-    agree-seize : Sound m → Agrees (obey seize (m .active) (x .0) m) (seizedBy s x .arbiter) o
-    unfolding seizedBy
-    agree-seize d = subst (λ (h : Holder). Agrees (obey seize h (x .0) m) (seizedBy s x .arbiter) o) (sym (a .active)) (by (s .active) refl)
+    agree-seize : Sound m → Agrees (accessStep seize (m .active) (x .0) m) (rule.seize s x .arbiter) o
+    unfolding rule.seize
+    agree-seize d = subst (λ (h : Holder). Agrees (accessStep seize h (x .0) m) (rule.seize s x .arbiter) o) (sym (a .active)) (by (s .active) refl)
       where
         unqueued : m .active ≡ free → (y : ℕ) → put (m .waiting) (x .0) false y ≡ waits s y
         unqueued e y = at (eqb y (x .0)) refl
@@ -125,48 +149,48 @@ module _ {m : Model} {s : Arbiter} {o : Bool} (a : Agrees m s o) where
             at true q = sym (d .freeUnasked e y (rw (eqb-true y (x .0) q) l)) ∙ a .flags y
             at false q = a .flags y
 
-        by : (w : Owner) → s .active ≡ w → Agrees (obey seize (holder w) (x .0) m) (seizeWith w s x .arbiter) o
+        by : (w : Owner) → s .active ≡ w → Agrees (accessStep seize (holder w) (x .0) m) (seizeFrom w s x .arbiter) o
         by Nobody e = record { active = refl; flags = unqueued (a .active ∙ ap holder e); sequenceOpen = a .sequenceOpen; flagCount = a .flagCount }
         by (Held y) e = at (ltb (y .0) (x .0))
           where
-            at : (t : Bool) → Agrees (cond t (acquire (x .0) m) m) (cond t (emptying (withSeized (withActive (withWaiting s (x .0) false) (Held x)) (y .0) true)) (quietly s) .arbiter) o
+            at : (t : Bool) → Agrees (cond t (acquire (x .0) m) m) (cond t (abortsCommand (withSeized (rule.serve s x) (y .0) true)) (keepsCommand s) .arbiter) o
             at true = record { active = refl; flags = flag (x .0) false l; sequenceOpen = a .sequenceOpen; flagCount = length-set (s .waiting) (x .0) false ∙ a .flagCount }
             at false = a
 
-    -- a write to ACCESS of page x that is not shut
-    pub agree-access : Sound m → shut m (x .0) ≡ false → (v : ℕ) → Agrees (step m (accessEvent (x .0) v)) (accessWritten s x v .arbiter) o
-    unfolding accessWritten commandOf seizedCleared
-    agree-access d n v = by (eqb (bit 5 v + bit 4 v + bit 3 v + bit 1 v) 1) (eqb (bit 1 v) 1) (eqb (bit 5 v) 1) (eqb (bit 3 v) 1)
-      where
-        by : (t₁ t₂ t₃ t₄ : Bool)
-            → Agrees (step m (cond t₁ (cond t₂ (access (x .0) requestUse) (cond t₃ (access (x .0) release) (cond t₄ (access (x .0) seize) (access (x .0) clearSeized)))) nothing))
-            (obeyed (cond t₁ (cond t₂ RequestUse (cond t₃ Release (cond t₄ Seize ClearSeized))) Nothing) s x .arbiter) o
-        by true true t₃ t₄ = rw n agree-request
-        by true false true t₄ = rw n agree-release
-        by true false false true = rw n (agree-seize d)
-        by true false false false = rw n (unmarked (x .0) false)
-        by false t₂ t₃ t₄ = a
+    -- a command of ACCESS in page x, which is not ignored
+    agree-command : Sound m → ignoresPage m (x .0) ≡ false → (k : AccessCommand) → Agrees (step m (commandEvent (x .0) k)) (commanded k s x .arbiter) o
+    unfolding clearSeized
+    agree-command d n Nothing = a
+    agree-command d n RequestUse = rw n agree-request
+    agree-command d n ActiveLocality = rw n agree-release
+    agree-command d n Seize = rw n (agree-seize d)
+    agree-command d n BeenSeized = rw n (unmarked (x .0) false)
+
+    pub agree-access : Sound m → ignoresPage m (x .0) ≡ false → (v : ℕ) → Agrees (step m (accessEvent (x .0) v)) (writeAccess s x v .arbiter) o
+    unfolding writeAccess
+    agree-access d n v = rw (event-command (x .0) v) (agree-command d n (accessCommand v))
 
   -- ---- a hash sequence
 
-  -- a start that counts opens the sequence, one that does not leaves all as it is
-  pub agree-start : Agrees (step m hashStart) (hashStarted s .arbiter) (hashStarted s .emptied || o)
-  unfolding hashStarted
-  agree-start = subst (λ (h : Holder). Agrees (start h m) (hashStarted s .arbiter) (hashStarted s .emptied || o)) (sym (a .active)) (by (s .active) refl)
+  -- a start that counts makes 4 active and opens the sequence
+  pub agree-start : startCounts (s .active) ≡ true → Agrees (step m hashStart) (rule.hashStart s) true
+  agree-start c = subst (λ (h : Holder). Agrees (start h m) (rule.hashStart s) true) (sym (a .active)) (by (s .active) c)
     where
-      by : (w : Owner) → s .active ≡ w → Agrees (start (holder w) m) (startWith w s .arbiter) (startWith w s .emptied || o)
-      by Nobody e = record { active = refl; flags = a .flags; sequenceOpen = refl; flagCount = a .flagCount }
-      by (Held y) e = at (eqb (y .0) 4) refl
-        where
-          at : (t : Bool) → eqb (y .0) 4 ≡ t → Agrees (cond t (started m) m) (cond t (emptying s) (quietly s) .arbiter) (cond t (emptying s) (quietly s) .emptied || o)
-          at true q = record { active = sym (ap held (eqb-true (y .0) 4 q)) ∙ sym (ap holder e); flags = a .flags; sequenceOpen = refl; flagCount = a .flagCount }
-          at false q = a
+      now-open : Agrees (started m) (rule.hashStart s) true
+      now-open = record { active = refl; flags = a .flags; sequenceOpen = refl; flagCount = a .flagCount }
 
--- an end of an open sequence closes it, and any other leaves all as it is: no sequence is open afterwards
-pub agree-end : {m : Model} {s : Arbiter} {o : Bool} → Agrees m s o → Agrees (step m hashEnd) (hashEnded o s .arbiter) false
-unfolding hashEnded
-agree-end {m} {s} {o} a = by o (a .sequenceOpen)
-  where
-    by : (t : Bool) → m .sequence ≡ t → Agrees (step m hashEnd) (cond t (handedOver s) (quietly s) .arbiter) false
-    by true e = rw e (agree-handover (record { active = a .active; flags = a .flags; sequenceOpen = refl; flagCount = a .flagCount }))
-    by false e = rw e (record { active = a .active; flags = a .flags; sequenceOpen = refl; flagCount = a .flagCount })
+      by : (w : Owner) → startCounts w ≡ true → Agrees (start (holder w) m) (rule.hashStart s) true
+      by Nobody e = now-open
+      by (Held y) e = rw e now-open
+
+  -- one that does not count is nothing to the model
+  pub late-start : startCounts (s .active) ≡ false → step m hashStart ≡ m
+  late-start c = subst (λ (h : Holder). start h m ≡ m) (sym (a .active)) (by (s .active) c)
+    where
+      by : (w : Owner) → startCounts w ≡ false → start (holder w) m ≡ m
+      by Nobody e = absurd (true≢false e)
+      by (Held y) e = rw e refl
+
+-- the end of an open sequence closes it and hands the device over
+pub agree-end : {m : Model} {s : Arbiter} → Agrees m s true → Agrees (step m hashEnd) (rule.handover s .arbiter) false
+agree-end a = rw (a .sequenceOpen) (agree-handover (record { active = a .active; flags = a .flags; sequenceOpen = refl; flagCount = a .flagCount }))

@@ -3,11 +3,11 @@ use Prim.Native.Nat.{ℕ}
 use mathlib.Core.Path.{_≡_}
 use mathlib.Core.Bool.{Bool}
 use lib.ListN.{length}
-use Rattle.waiting.specs.Model.{Model, Holder, free, held}
+use Rattle.arbiter_model.specs.Model.{Model, Holder, free, held}
 use Rattle.arbiter.specs.declared.Owner.{Owner}
 use Rattle.arbiter.specs.declared.Owner.the-variants.{Nobody, Held}
 use Rattle.arbiter.specs.declared.Arbiter.{Arbiter}
-use Rattle.arbiter.specs.Rules.{waits}
+use Rattle.arbiter.specs.State.{waits}
 
 abbrev pub holder : Owner → Holder
 holder Nobody = free

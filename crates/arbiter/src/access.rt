@@ -1,35 +1,52 @@
 // The rules of a write to ACCESS, on the arbiter state.
 ghost use mathlib.Core.Path.{_≡_};
 ghost use Prim.Native.Nat.{_<_};
-ghost use Rattle.arbiter.specs.Rules.{localities, anyWaits, commandOf, holds as holdsSpec, quietly as quietlySpec, requested, released, seizedBy, seizedCleared, accessWritten};
-use crate::AccessCommand;
+ghost use Rattle.arbiter.specs.State.{localities, anyWaits, holds as holdsSpec};
+ghost use Rattle.arbiter.specs.Rules.{keepsCommand, accessCommand, request as requestSpec, release as releaseSpec, seize as seizeSpec, clearSeized, writeAccess};
 use crate::Arbiter;
 use crate::Change;
 use crate::Locality;
 use crate::Owner;
 use crate::transfer::handover;
+use crate::transfer::serve;
+use crate::with_active;
+use crate::with_seized;
+use crate::with_waiting;
+use bits::bit;
+use reg_layout::access::ACTIVE_LOCALITY;
+use reg_layout::access::BEEN_SEIZED;
+use reg_layout::access::REQUEST_USE;
+use reg_layout::access::SEIZE;
 
-// Only bits 5, 4, 3 and 1 count.
-pub fn decode(byte: u8) -> AccessCommand
-    ensures { λ r. ⌜ r ≡ commandOf byte ⌝ }
+// The counted bit of a byte written to ACCESS that stands alone.
+pub enum AccessCommand {
+    Nothing,
+    RequestUse,
+    ActiveLocality,
+    Seize,
+    BeenSeized,
+}
+
+pub fn access_command(byte: u8) -> AccessCommand
+    ensures { λ r. ⌜ r ≡ accessCommand byte ⌝ }
 {
-    let release = byte / 32 % 2;
-    let clear = byte / 16 % 2;
-    let seize = byte / 8 % 2;
-    let request = byte / 2 % 2;
-    if release + clear + seize + request != 1 {
+    let active = bit(byte, ACTIVE_LOCALITY);
+    let been = bit(byte, BEEN_SEIZED);
+    let seize = bit(byte, SEIZE);
+    let request = bit(byte, REQUEST_USE);
+    if active + been + seize + request != 1 {
         return AccessCommand::Nothing;
     }
     if request == 1 {
         return AccessCommand::RequestUse;
     }
-    if release == 1 {
-        return AccessCommand::Release;
+    if active == 1 {
+        return AccessCommand::ActiveLocality;
     }
     if seize == 1 {
         return AccessCommand::Seize;
     }
-    AccessCommand::ClearSeized
+    AccessCommand::BeenSeized
 }
 
 pub fn holds(o: Owner, x: Locality) -> bool
@@ -47,48 +64,37 @@ pub fn any_waits(w: [bool; 5]) -> bool
     w[0] | w[1] | w[2] | w[3] | w[4]
 }
 
-// A state of which nothing is told.
-fn quietly(s: Arbiter) -> Change
-    ensures { λ r. ⌜ r ≡ quietlySpec s ⌝ }
+// A change that aborts no command and serves nobody.
+fn keeps_command(s: Arbiter) -> Change
+    ensures { λ r. ⌜ r ≡ keepsCommand s ⌝ }
 {
     Change {
         arbiter: s,
-        emptied: false,
-        served: false,
+        abort: false,
+        locality_change: false,
     }
 }
 
 pub fn request(s: Arbiter, x: Locality) -> Change
     requires { ⌜ x .0 < localities ⌝ }
-    ensures { λ r. ⌜ r ≡ requested s x ⌝ }
+    ensures { λ r. ⌜ r ≡ requestSpec s x ⌝ }
 {
     let owner = s.active;
-    let mut waiting = s.waiting;
-    let seized = s.seized;
     match owner {
-        Owner::Nobody => quietly(Arbiter {
-            active: Owner::Held(x),
-            waiting,
-            seized,
-        }),
+        Owner::Nobody => keeps_command(with_active(s, Owner::Held(x))),
         Owner::Held(y) => {
             if y.0 == x.0 {
-                return quietly(s);
+                return keeps_command(s);
             }
-            let i = x.0 as usize;
-            waiting[i] = true;
-            quietly(Arbiter {
-                active: owner,
-                waiting,
-                seized,
-            })
+            keeps_command(with_waiting(s, x, true))
         }
     }
 }
 
+// By the active locality; by one that waits it is a withdrawal.
 pub fn release(s: Arbiter, x: Locality) -> Change
     requires { ⌜ x .0 < localities ⌝ }
-    ensures { λ r. ⌜ r ≡ released s x ⌝ }
+    ensures { λ r. ⌜ r ≡ releaseSpec s x ⌝ }
 {
     let owner = s.active;
     if holds(owner, x) {
@@ -96,38 +102,26 @@ pub fn release(s: Arbiter, x: Locality) -> Change
     }
     let i = x.0 as usize;
     if s.waiting[i] {
-        let mut t = s;
-        t.waiting[i] = false;
-        return quietly(t);
+        return keeps_command(with_waiting(s, x, false));
     }
-    quietly(s)
+    keeps_command(s)
 }
 
 pub fn seize(s: Arbiter, x: Locality) -> Change
     requires { ⌜ x .0 < localities ⌝ }
-    ensures { λ r. ⌜ r ≡ seizedBy s x ⌝ }
+    ensures { λ r. ⌜ r ≡ seizeSpec s x ⌝ }
 {
     let owner = s.active;
     match owner {
         Owner::Nobody => request(s, x),
         Owner::Held(y) => {
             if x.0 <= y.0 {
-                return quietly(s);
+                return keeps_command(s);
             }
-            let i = x.0 as usize;
-            let j = y.0 as usize;
-            let mut others = s.waiting;
-            let mut seized = s.seized;
-            others[i] = false;
-            seized[j] = true;
             Change {
-                arbiter: Arbiter {
-                    active: Owner::Held(x),
-                    waiting: others,
-                    seized,
-                },
-                emptied: true,
-                served: false,
+                arbiter: with_seized(serve(s, x), y, true),
+                abort: true,
+                locality_change: false,
             }
         }
     }
@@ -135,25 +129,22 @@ pub fn seize(s: Arbiter, x: Locality) -> Change
 
 pub fn clear_seized(s: Arbiter, x: Locality) -> Change
     requires { ⌜ x .0 < localities ⌝ }
-    ensures { λ r. ⌜ r ≡ seizedCleared s x ⌝ }
+    ensures { λ r. ⌜ r ≡ clearSeized s x ⌝ }
 {
-    let mut t = s;
-    let i = x.0 as usize;
-    t.seized[i] = false;
-    quietly(t)
+    keeps_command(with_seized(s, x, false))
 }
 
 // A byte written to ACCESS of page x.
-pub fn write(s: Arbiter, x: Locality, byte: u8) -> Change
+pub fn write_access(s: Arbiter, x: Locality, byte: u8) -> Change
     requires { ⌜ x .0 < localities ⌝ }
-    ensures { λ r. ⌜ r ≡ accessWritten s x byte ⌝ }
+    ensures { λ r. ⌜ r ≡ writeAccess s x byte ⌝ }
 {
-    let command = decode(byte);
+    let command = access_command(byte);
     match command {
-        AccessCommand::Nothing => quietly(s),
+        AccessCommand::Nothing => keeps_command(s),
         AccessCommand::RequestUse => request(s, x),
-        AccessCommand::Release => release(s, x),
+        AccessCommand::ActiveLocality => release(s, x),
         AccessCommand::Seize => seize(s, x),
-        AccessCommand::ClearSeized => clear_seized(s, x),
+        AccessCommand::BeenSeized => clear_seized(s, x),
     }
 }

@@ -1,15 +1,19 @@
-// How the device passes on: the next owner, the handover, and what a hash sequence's start and end do to ownership.
+// How the device passes on: the next owner, the handover, and what a hash start does to ownership.
 ghost use mathlib.Core.Path.{_≡_};
-ghost use Rattle.arbiter.specs.Rules.{highest, handedOver, hashStarted, hashEnded};
+ghost use Prim.Native.Nat.{_<_};
+ghost use Rattle.arbiter.specs.State.{localities};
+ghost use Rattle.arbiter.specs.Rules.{nextOwner, serve as serveSpec, handover as handoverSpec, startCounts, hashStart};
 use crate::Arbiter;
 use crate::Change;
 use crate::LOCALITIES;
 use crate::Locality;
 use crate::Owner;
+use crate::with_active;
+use reg_layout::HASH_LOCALITY;
 
 // The highest locality that waits.
 pub fn next_owner(waiting: [bool; 5]) -> Owner
-    ensures { λ r. ⌜ r ≡ highest waiting ⌝ }
+    ensures { λ r. ⌜ r ≡ nextOwner waiting ⌝ }
 {
     let mut n = LOCALITIES;
     while 0 < n {
@@ -22,74 +26,53 @@ pub fn next_owner(waiting: [bool; 5]) -> Owner
     Owner::Nobody
 }
 
-// The one handover: the highest waiting locality is served, or the device is free.
+pub fn serve(s: Arbiter, y: Locality) -> Arbiter
+    requires { ⌜ y .0 < localities ⌝ }
+    ensures { λ r. ⌜ r ≡ serveSpec s y ⌝ }
+{
+    let i = y.0 as usize;
+    let mut waiting = s.waiting;
+    waiting[i] = false;
+    let seized = s.seized;
+    Arbiter {
+        active: Owner::Held(y),
+        waiting,
+        seized,
+    }
+}
+
+// The one handover, of a release and of a hash end: the highest waiting locality is served, or the device is free.
 pub fn handover(s: Arbiter) -> Change
-    ensures { λ r. ⌜ r ≡ handedOver s ⌝ }
+    ensures { λ r. ⌜ r ≡ handoverSpec s ⌝ }
 {
     let waiting = s.waiting;
-    let seized = s.seized;
     let next = next_owner(waiting);
     match next {
         Owner::Nobody => Change {
-            arbiter: Arbiter {
-                active: next,
-                waiting,
-                seized,
-            },
-            emptied: true,
-            served: false,
-        },
-        Owner::Held(y) => {
-            let i = y.0 as usize;
-            let mut left = waiting;
-            left[i] = false;
-            Change {
-                arbiter: Arbiter {
-                    active: next,
-                    waiting: left,
-                    seized,
-                },
-                emptied: true,
-                served: true,
-            }
-        }
-    }
-}
-
-// Where a start counts both FIFOs are emptied, so `emptied` also tells that it counts.
-pub fn hash_start(s: Arbiter) -> Change
-    ensures { λ r. ⌜ r ≡ hashStarted s ⌝ }
-{
-    let active = s.active;
-    let waiting = s.waiting;
-    let seized = s.seized;
-    match active {
-        Owner::Nobody => Change {
-            arbiter: Arbiter {
-                active: Owner::Held(Locality(4)),
-                waiting,
-                seized,
-            },
-            emptied: true,
-            served: false,
+            arbiter: with_active(s, next),
+            abort: true,
+            locality_change: false,
         },
         Owner::Held(y) => Change {
-            arbiter: s,
-            emptied: y.0 == 4,
-            served: false,
+            arbiter: serve(s, y),
+            abort: true,
+            locality_change: true,
         },
     }
 }
 
-pub fn hash_end(sequence: bool, s: Arbiter) -> Change
-    ensures { λ r. ⌜ r ≡ hashEnded sequence s ⌝ }
+pub fn start_counts(o: Owner) -> bool
+    ensures { λ r. ⌜ r ≡ startCounts o ⌝ }
 {
-    if sequence {
-        return handover(s);
+    match o {
+        Owner::Nobody => true,
+        Owner::Held(y) => y.0 == HASH_LOCALITY,
     }
-    Change {
-        arbiter: s,
-        emptied: false,
-        served: false,
-    }
+}
+
+// A start that counts.
+pub fn hash_start(s: Arbiter) -> Arbiter
+    ensures { λ r. ⌜ r ≡ hashStart s ⌝ }
+{
+    with_active(s, Owner::Held(Locality(HASH_LOCALITY)))
 }

@@ -1,41 +1,48 @@
 // An accepted read (document 01, 'The pages'): what each register gives, and what the read does to the phase.
 ghost use mathlib.Core.Path.{_≡_};
-ghost use mathlib.Core.Bool.{cond};
 ghost use Prim.Native.Nat.{_<_};
 ghost use lib.ListN.{getD};
-ghost use Rattle.fifos.specs.Fifos.{afterRead};
-ghost use Rattle.arbiter.specs.Rules.{localities};
-ghost use Rattle.bus_read.specs.Reading.{stsRead, fifoRead, registerByte, phaseAfter};
+ghost use Rattle.arbiter.specs.State.{localities};
+ghost use Rattle.bus_read.specs.Reading.{readSts, unmoved as unmovedSpec, readDataFifo, registerRead};
 use arbiter::Locality;
-use arbiter::access::holds;
-use fifos::after_read;
-use fifos::read_fifo;
-use interrupts::capability_byte;
-use interrupts::enable_byte;
-use interrupts::status_byte;
 use record::Control;
 use record::Phase;
-use registers::Register;
-use registers::access::access_byte;
-use status::size::more_expected;
-use status::sts::sts_byte;
+use reg_access::access_byte;
+use reg_fifo::after_read;
+use reg_fifo::fifo_byte;
+use reg_interrupts::capability_byte;
+use reg_interrupts::enable_byte;
+use reg_interrupts::status_byte;
+use reg_map::Register;
+use reg_sts_read::size::expects;
+use reg_sts_read::sts::sts_byte;
 
+// What a read of a register gives, and the phase that it leaves.
+pub struct RegisterRead {
+    pub byte: u8,
+    pub phase: Phase,
+}
+
+// Of the active locality or not.
 fn read_sts(active: bool, p: Phase, size: u32, c: u16, i: u8) -> u8
-    ensures { λ r. ⌜ r ≡ stsRead active p size c i ⌝ }
+    ensures { λ r. ⌜ r ≡ readSts active p size c i ⌝ }
 {
     if active {
-        return sts_byte(p, more_expected(p, size, c), c, i);
+        return sts_byte(p, expects(p, size, c), c, i);
     }
     0xff
 }
 
-fn read_data(active: bool, p: Phase, r: &[u8]) -> u8
-    ensures { λ b. ⌜ b ≡ fifoRead active p (now (r .entry)) ⌝ }
+fn read_data_fifo(active: bool, p: Phase, read_fifo: &[u8]) -> RegisterRead
+    ensures { λ s. ⌜ s ≡ readDataFifo active p (now («read_fifo» .entry)) ⌝ }
 {
     if active {
-        return read_fifo(p, r);
+        return RegisterRead {
+            byte: fifo_byte(p, read_fifo),
+            phase: after_read(p),
+        };
     }
-    0xff
+    unmoved(0xff, p)
 }
 
 fn identity_byte(identity: [u8; 5], i: u8) -> u8
@@ -48,62 +55,39 @@ fn identity_byte(identity: [u8; 5], i: u8) -> u8
     0
 }
 
-pub fn register_byte(
+// The phase stays.
+fn unmoved(byte: u8, phase: Phase) -> RegisterRead
+    ensures { λ r. ⌜ r ≡ unmovedSpec byte phase ⌝ }
+{
+    RegisterRead { byte, phase }
+}
+
+// Only a FIFO read moves the phase on; `active` is whether x is the active locality.
+pub fn register_read(
     g: Register,
     x: Locality,
-    k: Control,
-    p: Phase,
+    active: bool,
+    control: Control,
+    phase: Phase,
     identity: [u8; 5],
     size: u32,
     c: u16,
-    r: &[u8],
-) -> u8
+    read_fifo: &[u8],
+) -> RegisterRead
     requires { ⌜ x .0 < localities ⌝ }
-    ensures { λ b. ⌜ b ≡ registerByte g x k p identity size c (now (r .entry)) ⌝ }
+    ensures { λ r. ⌜ r ≡ registerRead g x active control phase identity size c (now («read_fifo» .entry)) ⌝ }
 {
-    let s = k.arbiter;
-    let o = s.active;
-    let t = k.interrupts;
+    let arbiter = control.arbiter;
+    let interrupts = control.interrupts;
     match g {
-        Register::Access => access_byte(s, k.established, x),
-        Register::IntEnable(i) => enable_byte(t, i),
-        Register::IntVector => 0,
-        Register::IntStatus(i) => status_byte(t, i),
-        Register::Capability(i) => capability_byte(i),
-        Register::Sts(i) => read_sts(holds(o, x), p, size, c, i),
-        Register::Fifo => read_data(holds(o, x), p, r),
-        Register::Identity(i) => identity_byte(identity, i),
-        Register::HashEnd => 0xff,
-        Register::HashStart => 0xff,
-        Register::Hole => 0xff,
-    }
-}
-
-fn moved_on(active: bool, p: Phase) -> Phase
-    ensures { λ r. ⌜ r ≡ cond active (afterRead p) p ⌝ }
-{
-    if active {
-        return after_read(p);
-    }
-    p
-}
-
-pub fn phase_after(g: Register, x: Locality, k: Control, p: Phase) -> Phase
-    ensures { λ r. ⌜ r ≡ phaseAfter g x k p ⌝ }
-{
-    let s = k.arbiter;
-    let o = s.active;
-    match g {
-        Register::Access => p,
-        Register::IntEnable(_i) => p,
-        Register::IntVector => p,
-        Register::IntStatus(_i) => p,
-        Register::Capability(_i) => p,
-        Register::Sts(_i) => p,
-        Register::Fifo => moved_on(holds(o, x), p),
-        Register::Identity(_i) => p,
-        Register::HashEnd => p,
-        Register::HashStart => p,
-        Register::Hole => p,
+        Register::Access => unmoved(access_byte(arbiter, control.established, x), phase),
+        Register::IntEnable(i) => unmoved(enable_byte(interrupts, i), phase),
+        Register::IntVector => unmoved(0, phase),
+        Register::IntStatus(i) => unmoved(status_byte(interrupts, i), phase),
+        Register::IntfCapability(i) => unmoved(capability_byte(i), phase),
+        Register::Sts(i) => unmoved(read_sts(active, phase, size, c, i), phase),
+        Register::DataFifo => read_data_fifo(active, phase, read_fifo),
+        Register::Identity(i) => unmoved(identity_byte(identity, i), phase),
+        Register::Reserved => unmoved(0xff, phase),
     }
 }

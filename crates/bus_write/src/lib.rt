@@ -1,159 +1,183 @@
 // An accepted write (document 01, 'The pages' to 'The launch hash'): what it does to control, phase and FIFOs.
 ghost use mathlib.Core.Path.{_≡_};
 ghost use Prim.Native.Nat.{_<_};
-ghost use Rattle.arbiter.specs.Rules.{localities, accessWritten};
-ghost use Rattle.effect.specs.Change.{interrupted as interruptedSpec, arbitrated as arbitratedSpec, commandedEffect};
-ghost use Rattle.bus_write.specs.Writing.{ifActive, startEffect, endEffect, ordinary as ordinarySpec, inPage, writeEffect};
-ghost use Rattle.interrupts.specs.Interrupts.{enableWritten, statusWritten};
-ghost use Rattle.command.specs.Sts.{stsWritten, stored};
+ghost use Rattle.arbiter.specs.State.{localities};
+ghost use Rattle.bus_write.specs.Effect.{ignored as ignoredSpec, aborted as abortedSpec, changedControl, applyChange, applyCommand, applyInterrupts};
+ghost use Rattle.bus_write.specs.Writing.{startEffect, registerWrite, writeEffect};
+use arbiter::Change;
 use arbiter::Locality;
-use arbiter::access::holds;
-use arbiter::transfer::hash_end;
+use arbiter::access::write_access;
+use arbiter::transfer::handover;
 use arbiter::transfer::hash_start;
-use command::sts::write_fifo;
-use command::sts::write_sts;
-use effect::Effect;
-use effect::arbitrated;
-use effect::commanded;
-use effect::ignored;
-use effect::interrupted;
-use interrupts::write_enable;
-use interrupts::write_status;
+use bus_resolve::WriteKind;
+use record::Causes;
 use record::Control;
+use record::Interrupts;
 use record::Phase;
-use registers::Register;
+use record::with_interrupts;
+use reg_fifo::FifoAction;
+use reg_interrupts::mark;
+use reg_interrupts::write_enable;
+use reg_interrupts::write_status;
+use reg_map::Register;
+use reg_sts_write::Commanded;
+use reg_sts_write::sts::write_data_fifo;
+use reg_sts_write::sts::write_sts;
 
-fn start(k: Control, p: Phase) -> Effect
-    ensures { λ r. ⌜ r ≡ startEffect k p ⌝ }
-{
-    let s = k.arbiter;
-    let c = hash_start(s);
-    arbitrated(k, p, k.established | c.emptied, c)
+// What a write leaves of control and phase, and what happens to the FIFOs.
+pub struct Effect {
+    pub control: Control,
+    pub phase: Phase,
+    pub fifos: FifoAction,
 }
 
-fn end(k: Control, p: Phase, sequence: bool) -> Effect
-    ensures { λ r. ⌜ r ≡ endEffect k p sequence ⌝ }
+fn ignored(control: Control, phase: Phase) -> Effect
+    ensures { λ r. ⌜ r ≡ ignoredSpec control phase ⌝ }
 {
-    let s = k.arbiter;
-    arbitrated(k, p, k.established, hash_end(sequence, s))
-}
-
-fn access(x: Locality, k: Control, p: Phase, v: u8) -> Effect
-    requires { ⌜ x .0 < localities ⌝ }
-    ensures { λ r. ⌜ r ≡ arbitratedSpec k p (k .established) (accessWritten (k .arbiter) x v) ⌝ }
-{
-    let s = k.arbiter;
-    arbitrated(k, p, k.established, arbiter::access::write(s, x, v))
-}
-
-fn enable(x: Locality, k: Control, p: Phase, i: u8, v: u8) -> Effect
-    ensures { λ r. ⌜ r ≡ ifActive k p x (interruptedSpec k p (enableWritten (k .interrupts) i v)) ⌝ }
-{
-    let s = k.arbiter;
-    let o = s.active;
-    let t = k.interrupts;
-    if holds(o, x) {
-        return interrupted(k, p, write_enable(t, i, v));
-    }
-    ignored(k, p)
-}
-
-fn status(x: Locality, k: Control, p: Phase, i: u8, v: u8) -> Effect
-    ensures { λ r. ⌜ r ≡ ifActive k p x (interruptedSpec k p (statusWritten (k .interrupts) i v)) ⌝ }
-{
-    let s = k.arbiter;
-    let o = s.active;
-    let t = k.interrupts;
-    if holds(o, x) {
-        return interrupted(k, p, write_status(t, i, v));
-    }
-    ignored(k, p)
-}
-
-fn sts(x: Locality, k: Control, p: Phase, size: u32, c: u16, i: u8, v: u8) -> Effect
-    ensures { λ r. ⌜ r ≡ ifActive k p x (commandedEffect k (stsWritten p (k .run) size c i v)) ⌝ }
-{
-    let s = k.arbiter;
-    let o = s.active;
-    if holds(o, x) {
-        return commanded(k, write_sts(p, k.run, size, c, i, v));
-    }
-    ignored(k, p)
-}
-
-fn fifo(x: Locality, k: Control, p: Phase, size: u32, c: u16) -> Effect
-    ensures { λ r. ⌜ r ≡ ifActive k p x (commandedEffect k (stored p (k .run) size c)) ⌝ }
-{
-    let s = k.arbiter;
-    let o = s.active;
-    if holds(o, x) {
-        return commanded(k, write_fifo(p, k.run, size, c));
-    }
-    ignored(k, p)
-}
-
-fn ordinary(g: Register, x: Locality, k: Control, p: Phase, size: u32, c: u16, v: u8) -> Effect
-    requires { ⌜ x .0 < localities ⌝ }
-    ensures { λ r. ⌜ r ≡ ordinarySpec g x k p size c v ⌝ }
-{
-    match g {
-        Register::Access => access(x, k, p, v),
-        Register::IntEnable(i) => enable(x, k, p, i, v),
-        Register::IntVector => ignored(k, p),
-        Register::IntStatus(i) => status(x, k, p, i, v),
-        Register::Capability(_i) => ignored(k, p),
-        Register::Sts(i) => sts(x, k, p, size, c, i, v),
-        Register::Fifo => fifo(x, k, p, size, c),
-        Register::Identity(_i) => ignored(k, p),
-        Register::HashEnd => ignored(k, p),
-        Register::HashStart => ignored(k, p),
-        Register::Hole => ignored(k, p),
+    Effect {
+        control,
+        phase,
+        fifos: FifoAction::Keep,
     }
 }
 
-fn in_page(
+// The owner's command is aborted: both FIFOs are cleared and the phase is Idle.
+fn aborted(control: Control) -> Effect
+    ensures { λ r. ⌜ r ≡ abortedSpec control ⌝ }
+{
+    Effect {
+        control,
+        phase: Phase::Idle,
+        fifos: FifoAction::Clear,
+    }
+}
+
+fn changed_control(control: Control, change: Change) -> Control
+    ensures { λ r. ⌜ r ≡ changedControl control change ⌝ }
+{
+    let interrupts = control.interrupts;
+    let arbiter = change.arbiter;
+    Control {
+        arbiter,
+        interrupts: mark(
+            interrupts,
+            Causes {
+                command_ready: false,
+                locality_change: change.locality_change,
+                data_avail: false,
+            },
+        ),
+        established: control.established,
+        run: control.run,
+    }
+}
+
+// What a rule of the arbiter leaves.
+fn apply_change(control: Control, phase: Phase, change: Change) -> Effect
+    ensures { λ r. ⌜ r ≡ applyChange control phase change ⌝ }
+{
+    let after = changed_control(control, change);
+    if change.abort {
+        return aborted(after);
+    }
+    Effect {
+        control: after,
+        phase,
+        fifos: FifoAction::Keep,
+    }
+}
+
+// What a command bit, a FIFO write or an answer leaves.
+pub fn apply_command(control: Control, commanded: Commanded) -> Effect
+    ensures { λ r. ⌜ r ≡ applyCommand control commanded ⌝ }
+{
+    let arbiter = control.arbiter;
+    let interrupts = control.interrupts;
+    let causes = commanded.causes;
+    let phase = commanded.phase;
+    let fifos = commanded.fifos;
+    Effect {
+        control: Control {
+            arbiter,
+            interrupts: mark(interrupts, causes),
+            established: control.established,
+            run: commanded.run,
+        },
+        phase,
+        fifos,
+    }
+}
+
+fn start_effect(control: Control) -> Effect
+    ensures { λ r. ⌜ r ≡ startEffect control ⌝ }
+{
+    let arbiter = control.arbiter;
+    let interrupts = control.interrupts;
+    aborted(Control {
+        arbiter: hash_start(arbiter),
+        interrupts,
+        established: true,
+        run: control.run,
+    })
+}
+
+// ACCESS of any page, or another register of the active locality's.
+fn register_write(
     g: Register,
     x: Locality,
-    k: Control,
-    p: Phase,
-    sequence: bool,
+    control: Control,
+    phase: Phase,
     size: u32,
     c: u16,
     v: u8,
 ) -> Effect
     requires { ⌜ x .0 < localities ⌝ }
-    ensures { λ r. ⌜ r ≡ inPage g x k p sequence size c v ⌝ }
+    ensures { λ r. ⌜ r ≡ registerWrite g x control phase size c v ⌝ }
 {
-    if sequence & (x.0 == 4) {
-        return ignored(k, p);
+    let arbiter = control.arbiter;
+    let interrupts = control.interrupts;
+    match g {
+        Register::Access => apply_change(control, phase, write_access(arbiter, x, v)),
+        Register::IntEnable(i) => apply_interrupts(control, phase, write_enable(interrupts, i, v)),
+        Register::IntVector => ignored(control, phase),
+        Register::IntStatus(i) => apply_interrupts(control, phase, write_status(interrupts, i, v)),
+        Register::IntfCapability(_i) => ignored(control, phase),
+        Register::Sts(i) => apply_command(control, write_sts(phase, control.run, size, c, i, v)),
+        Register::DataFifo => apply_command(control, write_data_fifo(phase, control.run, size, c)),
+        Register::Identity(_i) => ignored(control, phase),
+        Register::Reserved => ignored(control, phase),
     }
-    ordinary(g, x, k, p, size, c, v)
+}
+
+// The interrupt registers alone are changed.
+fn apply_interrupts(control: Control, phase: Phase, interrupts: Interrupts) -> Effect
+    ensures { λ r. ⌜ r ≡ applyInterrupts control phase interrupts ⌝ }
+{
+    Effect {
+        control: with_interrupts(control, interrupts),
+        phase,
+        fifos: FifoAction::Keep,
+    }
 }
 
 pub fn write_effect(
-    g: Register,
+    kind: WriteKind,
     x: Locality,
-    k: Control,
-    p: Phase,
-    sequence: bool,
+    control: Control,
+    phase: Phase,
     size: u32,
     c: u16,
     v: u8,
 ) -> Effect
     requires { ⌜ x .0 < localities ⌝ }
-    ensures { λ r. ⌜ r ≡ writeEffect g x k p sequence size c v ⌝ }
+    ensures { λ r. ⌜ r ≡ writeEffect kind x control phase size c v ⌝ }
 {
-    match g {
-        Register::HashStart => start(k, p),
-        Register::HashEnd => end(k, p, sequence),
-        Register::Access => in_page(g, x, k, p, sequence, size, c, v),
-        Register::IntEnable(_i) => in_page(g, x, k, p, sequence, size, c, v),
-        Register::IntVector => in_page(g, x, k, p, sequence, size, c, v),
-        Register::IntStatus(_i) => in_page(g, x, k, p, sequence, size, c, v),
-        Register::Capability(_i) => in_page(g, x, k, p, sequence, size, c, v),
-        Register::Sts(_i) => in_page(g, x, k, p, sequence, size, c, v),
-        Register::Fifo => in_page(g, x, k, p, sequence, size, c, v),
-        Register::Identity(_i) => in_page(g, x, k, p, sequence, size, c, v),
-        Register::Hole => in_page(g, x, k, p, sequence, size, c, v),
+    let arbiter = control.arbiter;
+    match kind {
+        WriteKind::HashStart => start_effect(control),
+        WriteKind::HashEnd => apply_change(control, phase, handover(arbiter)),
+        WriteKind::HashData => ignored(control, phase),
+        WriteKind::Ignored => ignored(control, phase),
+        WriteKind::Ordinary(g) => register_write(g, x, control, phase, size, c, v),
     }
 }

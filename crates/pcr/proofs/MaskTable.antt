@@ -10,7 +10,7 @@ use mir.Facts.{and-yes}
 use borrow.Author.Tests.{leb-false, le-leb, lt-leb}
 use Rattle.pcr.specs.declared.Permission.{Permission}
 use Rattle.pcr.specs.Bank.{pcrs}
-use Rattle.arbiter.specs.Rules.{localities}
+use Rattle.arbiter.specs.State.{localities}
 use Rattle.pcr.specs.Permission.{refused, given, permission, byMask}
 
 module _ (rule : ℕ → ℕ → Bool) (p x : ℕ) where
@@ -42,7 +42,7 @@ at (suc n) f t k h =
     let both : T (f n) × T (allBelow n f) = and-yes (f n) (allBelow n f) t in
     ⊎-elim (λ e. subst (λ (m : ℕ). T (f m)) (sym e) (both .0)) (λ l. at n f (both .1) k l) (eq-or-lt-of-le (le-of-suc-le-suc h))
 
-neither : (a b : Bool) → (a || b) ≡ false → (a ≡ false) × (b ≡ false)
+pub neither : (a b : Bool) → (a || b) ≡ false → (a ≡ false) × (b ≡ false)
 neither true b e = absurd (true≢false e)
 neither false b e = (refl, e)
 

@@ -1,10 +1,11 @@
 -- The permission table, and the question asked of it. Assumes nothing.
-use Prim.Native.Nat.{ℕ, zero, suc, _-_, _/_, _%_, _^_}
+use Prim.Native.Nat.{ℕ, zero, suc, _-_}
 use mathlib.Core.Bool.{Bool, false, cond, _&&_, _||_}
 use mathlib.Core.List.{List, [], _∷_}
 use lib.Dec.{eqb, leb}
 use lib.ListN.{getD}
-use Rattle.arbiter.specs.Rules.{localities}
+use Rattle.bits.specs.Bits.{isSet}
+use Rattle.arbiter.specs.State.{localities}
 use Rattle.refusal.specs.Refusal.{accepted, question}
 use Rattle.pcr.specs.Bank.{pcrs}
 use Rattle.pcr.specs.declared.Permission.{Permission}
@@ -25,7 +26,7 @@ pub record Row : Type 0 where
   pub extendFrom : List ℕ
 
 abbrev row : List ℕ → List ℕ → List ℕ → Row
-row p r e = record { pcrsOf = p; resetFrom = r; extendFrom = e }
+row ps resets extends = record { pcrsOf = ps; resetFrom = resets; extendFrom = extends }
 
 -- 'The permission table' (TIS Table 4): PCR, reset from, extend from
 unfoldable pub permissionTable : List Row
@@ -55,7 +56,7 @@ mayExtend = inColumn (λ r. r .extendFrom) permissionTable
 
 -- 'Code places and language forms', locality masks: locality x is bit x
 abbrev pub inMask : ℕ → ℕ → Bool
-inMask mask x = eqb (mask / 2 ^ x % 2) 1
+inMask mask x = isSet x mask
 
 -- the same in PCR p's entry of a table
 abbrev pub byMask : List ℕ → ℕ → ℕ → Bool

@@ -1,7 +1,7 @@
 // The values of the 24 PCRs: fresh, at a hash start, read, and with one replaced.
 ghost use mathlib.Core.Path.{_≡_};
 ghost use Prim.Native.Nat.{_<_};
-ghost use Rattle.pcr.specs.Bank.{pcrs, valueAt, replaced, withDynamic, fresh as freshBank, launched as launchedBank};
+ghost use Rattle.pcr.specs.Bank.{pcrs, valueAt, replaced as replacedSpec, withDynamic, fresh as freshBank, launched as launchedBank};
 use crate::PCRS;
 use crate::Pcr;
 use crate::PcrIndex;
@@ -39,7 +39,7 @@ pub fn launched(bank: [Pcr; PCRS]) -> [Pcr; PCRS]
 }
 
 // A question with a PCR above 23 is refused before it comes here.
-pub fn read(bank: [Pcr; PCRS], p: PcrIndex) -> [u8; 20]
+pub fn value_at(bank: [Pcr; PCRS], p: PcrIndex) -> [u8; 20]
     requires { ⌜ p .0 < pcrs ⌝ }
     ensures { λ r. ⌜ r ≡ valueAt bank (p .0) ⌝ }
 {
@@ -48,9 +48,9 @@ pub fn read(bank: [Pcr; PCRS], p: PcrIndex) -> [u8; 20]
     pcr.bytes
 }
 
-pub fn replace(bank: [Pcr; PCRS], p: PcrIndex, value: [u8; 20]) -> [Pcr; PCRS]
+pub fn replaced(bank: [Pcr; PCRS], p: PcrIndex, value: [u8; 20]) -> [Pcr; PCRS]
     requires { ⌜ p .0 < pcrs ⌝ }
-    ensures { λ r. ⌜ r ≡ replaced bank (p .0) value ⌝ }
+    ensures { λ r. ⌜ r ≡ replacedSpec bank (p .0) value ⌝ }
 {
     let i = p.0 as usize;
     let mut after = bank;

@@ -1,13 +1,14 @@
 // Who may reset and who may extend which PCR: a table of locality masks for each, and the questions asked of them.
 ghost use mathlib.Core.Path.{_≡_};
 ghost use Prim.Native.Nat.{_<_};
-ghost use Rattle.arbiter.specs.Rules.{localities};
-ghost use Rattle.pcr.specs.Permission.{inMask, byMask, permission, mayReset, mayExtend};
+ghost use Rattle.arbiter.specs.State.{localities};
+ghost use Rattle.pcr.specs.Permission.{inMask, byMask, permission as permissionSpec, mayReset, mayExtend};
 use crate::PCRS;
 use crate::PcrIndex;
 use crate::Permission;
 use arbiter::LOCALITIES;
 use arbiter::Locality;
+use bits::is_set;
 
 // Locality k is bit k of a mask, so that a table keeps TIS Table 4's form, one entry to a PCR.
 const RESET_LOCALITIES: [u8; PCRS] = [
@@ -75,12 +76,12 @@ pub fn in_mask(mask: u8, x: Locality) -> bool
     requires { ⌜ x .0 < localities ⌝ }
     ensures { λ r. ⌜ r ≡ inMask mask (x .0) ⌝ }
 {
-    (mask >> x.0) % 2 == 1
+    is_set(mask, x.0)
 }
 
 // Both questions differ in the table only.
-fn ask(masks: [u8; PCRS], p: PcrIndex, x: Locality) -> Permission
-    ensures { λ r. ⌜ r ≡ permission (byMask masks) (p .0) (x .0) ⌝ }
+fn permission(masks: [u8; PCRS], p: PcrIndex, x: Locality) -> Permission
+    ensures { λ r. ⌜ r ≡ permissionSpec (byMask masks) (p .0) (x .0) ⌝ }
 {
     let i = p.0 as usize;
     if PCRS <= i {
@@ -96,13 +97,13 @@ fn ask(masks: [u8; PCRS], p: PcrIndex, x: Locality) -> Permission
 }
 
 pub fn may_reset(p: PcrIndex, x: Locality) -> Permission
-    ensures { λ r. ⌜ r ≡ permission mayReset (p .0) (x .0) ⌝ }
+    ensures { λ r. ⌜ r ≡ permissionSpec mayReset (p .0) (x .0) ⌝ }
 {
-    ask(RESET_LOCALITIES, p, x)
+    permission(RESET_LOCALITIES, p, x)
 }
 
 pub fn may_extend(p: PcrIndex, x: Locality) -> Permission
-    ensures { λ r. ⌜ r ≡ permission mayExtend (p .0) (x .0) ⌝ }
+    ensures { λ r. ⌜ r ≡ permissionSpec mayExtend (p .0) (x .0) ⌝ }
 {
-    ask(EXTEND_LOCALITIES, p, x)
+    permission(EXTEND_LOCALITIES, p, x)
 }

@@ -8,9 +8,13 @@ fifoLeast = 1024
 abbrev pub fifoGreatest : ℕ
 fifoGreatest = 4096
 
--- the shortest command that runs, and the shortest answer
+-- "If the declared size is at least 10 ..", "engine answer shorter than 10": a command's or an answer's header
 abbrev pub header : ℕ
 header = 10
+
+-- burstCount: "in Ready 64; .. the lesser of 64 and .."
+abbrev pub burstCap : ℕ
+burstCap = 64
 
 -- "hash byte number 1,048,577 or later" is refused
 abbrev pub hashLimit : ℕ

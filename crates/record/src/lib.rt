@@ -1,6 +1,6 @@
 // The device record (document 01, 'What the device record carries'), its limits and its fresh value.
 ghost use mathlib.Core.Path.{_≡_};
-ghost use Rattle.record.specs.Record.{noCauses, freshControl, closedLaunch, freshDevice};
+ghost use Rattle.record.specs.Record.{noCauses, freshControl, closedLaunch, freshDevice, withInterrupts, hashProgress};
 use arbiter::Arbiter;
 use pcr::Pcr;
 use sha1::Stream;
@@ -16,14 +16,14 @@ pub enum Phase {
     Completion(u16, u16),
 }
 
-// One flag for each interrupt: commandReady (bit 7), localityChange (bit 2), dataAvail (bit 0).
+// One flag for each interrupt.
 pub struct Causes {
-    pub ready: bool,
-    pub change: bool,
-    pub avail: bool,
+    pub command_ready: bool,
+    pub locality_change: bool,
+    pub data_avail: bool,
 }
 
-// INT_ENABLE's global bit (globalIntEnable, bit 31), its three causes, and INT_STATUS.
+// INT_ENABLE's globalIntEnable and its three causes, and INT_STATUS.
 pub struct Interrupts {
     pub global: bool,
     pub enable: Causes,
@@ -44,6 +44,12 @@ pub struct Launch {
     pub stream: Stream,
 }
 
+// What of the hash sequence is asked before a call: no word and no byte of the stream.
+pub struct HashProgress {
+    pub sequence: bool,
+    pub count: u32,
+}
+
 pub struct Device {
     pub control: Control,
     pub phase: Phase,
@@ -56,9 +62,9 @@ pub fn no_causes() -> Causes
     ensures { λ r. ⌜ r ≡ noCauses ⌝ }
 {
     Causes {
-        ready: false,
-        change: false,
-        avail: false,
+        command_ready: false,
+        locality_change: false,
+        data_avail: false,
     }
 }
 
@@ -66,7 +72,7 @@ fn fresh_control(established: bool, run: u32) -> Control
     ensures { λ r. ⌜ r ≡ freshControl established run ⌝ }
 {
     Control {
-        arbiter: arbiter::fresh(),
+        arbiter: arbiter::fresh_arbiter(),
         interrupts: Interrupts {
             global: false,
             enable: no_causes(),
@@ -74,6 +80,18 @@ fn fresh_control(established: bool, run: u32) -> Control
         },
         established,
         run,
+    }
+}
+
+pub fn with_interrupts(control: Control, s: Interrupts) -> Control
+    ensures { λ r. ⌜ r ≡ withInterrupts control s ⌝ }
+{
+    let arbiter = control.arbiter;
+    Control {
+        arbiter,
+        interrupts: s,
+        established: control.established,
+        run: control.run,
     }
 }
 
@@ -86,15 +104,18 @@ pub fn closed_launch() -> Launch
     }
 }
 
-// At power-on.
-pub fn fresh(established: bool, identity: [u8; 5]) -> Device
-    ensures { λ r. ⌜ r ≡ freshDevice established identity 0 ⌝ }
+pub fn hash_progress(launch: Launch) -> HashProgress
+    ensures { λ r. ⌜ r ≡ hashProgress launch ⌝ }
 {
-    anew(established, identity, 0)
+    let stream = launch.stream;
+    HashProgress {
+        sequence: launch.sequence,
+        count: stream.count,
+    }
 }
 
-// At a reset: what it keeps goes in.
-pub fn anew(established: bool, identity: [u8; 5], run: u32) -> Device
+// At power-on, with run number 0, and at a reset: what it keeps goes in.
+pub fn fresh_device(established: bool, identity: [u8; 5], run: u32) -> Device
     ensures { λ r. ⌜ r ≡ freshDevice established identity run ⌝ }
 {
     Device {

@@ -8,5 +8,8 @@ pub const FIFO_GREATEST: u16 = 4096;
 // The shortest command that runs and the shortest answer.
 pub const HEADER: u16 = 10;
 
+// The most that burstCount shows.
+pub const BURST_CAP: u16 = 64;
+
 // The bytes that a hash sequence takes.
 pub const HASH_LIMIT: u32 = 1_048_576;

@@ -1,6 +1,7 @@
 -- The numbers of document 01's table 'When the front says no'. Assumes nothing.
 use Prim.Native.Nat.{ℕ}
 
+-- accepted
 abbrev pub accepted : ℕ
 accepted = 0
 
@@ -24,7 +25,7 @@ answerLength = 4
 abbrev pub question : ℕ
 question = 5
 
--- record out of shape
+-- record out of shape (the interrupt line question aside)
 abbrev pub shape : ℕ
 shape = 6
 

@@ -1,9 +1,7 @@
 // Plays a list of calls from standard input through the public calls and writes each outcome; docs/REPLAY.md has the form.
 ghost use mathlib.Core.Path.{_≡_};
-ghost use Prim.Native.Nat.{_≤_};
+ghost use Prim.Native.Nat.{_+_, _≤_};
 ghost use lib.ListN.{length};
-use replay_bench::Bench;
-use replay_bench::play;
 use replay_form::LONGEST;
 use replay_form::fault;
 use replay_form::frame::Fault;
@@ -13,82 +11,111 @@ use replay_form::tape::ROOM;
 use replay_form::tape::Tape;
 use replay_form::tape::moved;
 use replay_form::tape::ready;
+use replay_state::State;
+use replay_state::play;
 
-struct State {
+struct Progress {
     tape: Tape,
-    bench: Bench,
+    state: State,
     going: bool,
     fault: Fault,
 }
 
-fn stop(tape: Tape, bench: Bench, fault: Fault) -> State
+fn stop(tape: Tape, state: State, fault: Fault) -> Progress
     ensures { λ a. ⌜ (a .tape .at ≡ tape .at) × (a .tape .end ≡ tape .end) × (a .tape .used ≡ tape .used) ⌝ }
 {
-    State {
+    Progress {
         tape,
-        bench,
+        state,
         going: false,
         fault,
+    }
+}
+
+// A call of so many bytes.
+fn played(
+    tape: Tape,
+    size: usize,
+    state: State,
+    input: &[u8],
+    output: &mut [u8],
+    w: &mut [u8],
+    r: &mut [u8],
+) -> Progress
+    requires { ⌜ (1 ≤ size) × (tape .at + size ≤ tape .end) × (tape .end ≤ length (now input)) × (tape .used ≤ length (now output)) ⌝ }
+    ensures { λ a. ⌜ (a .tape .at ≤ a .tape .end) × (a .tape .end ≡ tape .end) × (a .tape .used ≤ length (now (output .exit))) ⌝ }
+{
+    let at = tape.at;
+    let used = tape.used;
+    let next = at + size;
+    let p = play(state, &input[at..next], &mut output[used..], w, r);
+    let after = p.state;
+    Progress {
+        tape: moved(tape, size, p.put, output),
+        state: after,
+        going: true,
+        fault: Fault::Nothing,
     }
 }
 
 // The next call, if there is one.
 fn step(
     tape: Tape,
-    bench: Bench,
+    state: State,
     input: &[u8],
     output: &mut [u8],
     w: &mut [u8],
     r: &mut [u8],
-) -> State
+) -> Progress
     requires { ⌜ (tape .at ≤ tape .end) × (tape .end ≤ length (now input)) × (tape .used ≤ length (now output)) ⌝ }
     ensures { λ a. ⌜ (a .tape .at ≤ a .tape .end) × (a .tape .end ≡ tape .end) × (a .tape .used ≤ length (now (output .exit))) ⌝ }
 {
+    if tape.write_failed {
+        return stop(tape, state, Fault::Output);
+    }
     let at = tape.at;
     let end = tape.end;
-    let used = tape.used;
     if at == end {
-        return stop(tape, bench, Fault::Nothing);
+        return stop(
+            tape,
+            state,
+            fault::of_input(Fault::Nothing, tape.read_failed),
+        );
     }
     let f = next_call(&input[at..end]);
     let size = f.size;
     if size == 0 {
         let fault = f.fault;
-        return stop(tape, bench, fault);
+        return stop(tape, state, fault::of_input(fault, tape.read_failed));
     }
-    let next = at + size;
-    let p = play(bench, &input[at..next], &mut output[used..], w, r);
-    let after = p.bench;
-    State {
-        tape: moved(tape, size, p.put, output),
-        bench: after,
-        going: true,
-        fault: Fault::Nothing,
-    }
+    played(tape, size, state, input, output, w, r)
 }
 
 fn turn(
-    s: State,
+    s: Progress,
     input: &mut [u8; ROOM],
     output: &mut [u8; ROOM],
     w: &mut [u8; LONGEST],
     r: &mut [u8; LONGEST],
-) -> State
+) -> Progress
     requires { ⌜ (s .tape .at ≤ s .tape .end) × (s .tape .end ≤ 65536) × (s .tape .used ≤ 65536) ⌝ }
     ensures { λ a. ⌜ (a .tape .at ≤ a .tape .end) × (a .tape .end ≤ 65536) × (a .tape .used ≤ 65536) ⌝ }
 {
     let t = s.tape;
-    let b = s.bench;
+    let state = s.state;
     let a = ready(t, input, output);
-    step(a, b, input, output, w, r)
+    step(a, state, input, output, w, r)
 }
 
 // What is left is written, and a fault named with the number of its call, from 1.
 fn finish(tape: Tape, fault: Fault, output: &[u8; ROOM], turns: u64)
     requires { ⌜ tape .used ≤ 65536 ⌝ }
 {
-    tape::write_out(tape.used, output);
-    fault::say(fault, u64::MAX - turns);
+    if tape::write_out(tape.used, output) {
+        fault::say(fault, u64::MAX - turns);
+    } else {
+        fault::say(Fault::Output, u64::MAX - turns);
+    }
 }
 
 // A proved loop has to end, and nothing says that the input does: the turns are counted down from a number that no run uses up.
@@ -97,9 +124,9 @@ fn main() {
     let mut output = [0u8; ROOM];
     let mut w = [0u8; LONGEST];
     let mut r = [0u8; LONGEST];
-    let mut s = State {
+    let mut s = Progress {
         tape: tape::start(),
-        bench: replay_bench::start(),
+        state: replay_state::start(),
         going: true,
         fault: Fault::Nothing,
     };

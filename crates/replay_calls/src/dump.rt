@@ -5,7 +5,7 @@ use replay_form::IMAGE;
 use replay_form::LONGEST;
 use replay_form::fields::put_all;
 use replay_form::fields::put_u16;
-use replay_image::put_device;
+use replay_record::put_device;
 
 fn put_fifos(out: &mut [u8], w: &[u8], r: &[u8]) -> usize
     ensures { λ n. ⌜ n ≤ 16388 ⌝ }

@@ -16,6 +16,8 @@ pub enum Fault {
     TooLong,
     Flag,
     Phase,
+    Input,
+    Output,
 }
 
 // The bytes of a call, opcode included: 0 where the stream has a fault.

@@ -11,12 +11,15 @@ pub const ROOM: usize = 65536;
 // More than any call and any outcome takes.
 const MARGIN: usize = 17000;
 
-// The bytes of the input that are not yet played, whether the input has ended, and the bytes of the output that are not yet written.
+// The bytes of the input that are not yet played, whether the input has ended, the bytes of the output that are not yet written, and whether
+// a read or a write failed.
 pub struct Tape {
     pub at: usize,
     pub end: usize,
     pub dry: bool,
     pub used: usize,
+    pub read_failed: bool,
+    pub write_failed: bool,
 }
 
 pub fn start() -> Tape
@@ -27,6 +30,8 @@ pub fn start() -> Tape
         end: 0,
         dry: false,
         used: 0,
+        read_failed: false,
+        write_failed: false,
     }
 }
 
@@ -49,12 +54,34 @@ fn shift(input: &mut [u8], at: usize, n: usize)
     }
 }
 
-fn read_more(input: &mut [u8], n: usize) -> usize
+// How many bytes came, and whether the last read failed.
+struct Got {
+    bytes: usize,
+    failed: bool,
+}
+
+fn read_once(rest: &mut [u8]) -> Got
+    ensures { λ r. ⌜ r .bytes ≤ length (now (rest .exit)) ⌝ }
+{
+    let got = libc::read(STDIN_FILENO, rest);
+    Got {
+        bytes: io::count(got, rest),
+        failed: got < 0,
+    }
+}
+
+// Until the input is full, ends or fails: the first read does not tell the last two apart, so one more does.
+fn read_more(input: &mut [u8], n: usize) -> Got
     requires { ⌜ n ≤ length (now input) ⌝ }
-    ensures { λ r. ⌜ n + r ≤ length (now (input .exit)) ⌝ }
+    ensures { λ r. ⌜ n + r .bytes ≤ length (now (input .exit)) ⌝ }
 {
     let most = input.len() - n;
-    least(io::read_full(STDIN_FILENO, &mut input[n..]), most)
+    let bytes = least(io::read_full(STDIN_FILENO, &mut input[n..]), most);
+    let last = read_once(&mut input[n + bytes..]);
+    Got {
+        bytes: bytes + least(last.bytes, most - bytes),
+        failed: last.failed,
+    }
 }
 
 // A whole call's bytes lie ahead afterwards, or all that the input has.
@@ -68,31 +95,42 @@ fn refill(t: Tape, input: &mut [u8]) -> Tape
         return t;
     }
     shift(input, at, n);
-    let more = read_more(input, n);
+    let got = read_more(input, n);
+    let end = n + got.bytes;
     Tape {
         at: 0,
-        end: n + more,
-        dry: n + more < input.len(),
+        end,
+        dry: end < input.len(),
         used: t.used,
+        read_failed: got.failed,
+        write_failed: t.write_failed,
     }
 }
 
-pub fn write_out(used: usize, output: &[u8])
+// Is all of it written.
+pub fn write_out(used: usize, output: &[u8]) -> bool
     requires { ⌜ used ≤ length (now output) ⌝ }
 {
-    io::write_all(STDOUT_FILENO, &output[0..used]);
+    io::write_all(STDOUT_FILENO, &output[0..used])
 }
 
 // Room for an outcome afterwards.
-fn drain(used: usize, output: &[u8]) -> usize
-    requires { ⌜ used ≤ length (now output) ⌝ }
-    ensures { λ r. ⌜ r ≤ used ⌝ }
+fn drain(t: Tape, output: &[u8]) -> Tape
+    requires { ⌜ t .used ≤ length (now output) ⌝ }
+    ensures { λ r. ⌜ (r .at ≡ t .at) × (r .end ≡ t .end) × (r .used ≤ t .used) ⌝ }
 {
-    if MARGIN <= output.len() - used {
-        return used;
+    if MARGIN <= output.len() - t.used {
+        return t;
     }
-    write_out(used, output);
-    0
+    let written = write_out(t.used, output);
+    Tape {
+        at: t.at,
+        end: t.end,
+        dry: t.dry,
+        used: 0,
+        read_failed: t.read_failed,
+        write_failed: !written,
+    }
 }
 
 // Both, before a call.
@@ -100,14 +138,7 @@ pub fn ready(t: Tape, input: &mut [u8], output: &[u8]) -> Tape
     requires { ⌜ (t .at ≤ t .end) × (t .end ≤ length (now input)) × (t .used ≤ length (now output)) ⌝ }
     ensures { λ r. ⌜ (r .at ≤ r .end) × (r .end ≤ length (now (input .exit))) × (r .used ≤ length (now (output .entry))) ⌝ }
 {
-    let a = refill(t, input);
-    let used = drain(t.used, output);
-    Tape {
-        at: a.at,
-        end: a.end,
-        dry: a.dry,
-        used,
-    }
+    drain(refill(t, input), output)
 }
 
 // After a call of so many bytes whose outcome has so many.
@@ -121,5 +152,7 @@ pub fn moved(t: Tape, size: usize, put: usize, output: &[u8]) -> Tape
         end: t.end,
         dry: t.dry,
         used: t.used + least(put, left),
+        read_failed: t.read_failed,
+        write_failed: t.write_failed,
     }
 }

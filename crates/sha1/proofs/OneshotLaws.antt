@@ -7,7 +7,7 @@ use lib.ListN.{length, take, drop, replicate, length-append, length-drop}
 use lib.Seq.{take-all, take-at, take-length, drop-at}
 use borrow.Rule.Slice.PartMut.{midOf, putMid}
 use Rattle.sha1_block.specs.Sha1.{hashed, sha1}
-use Rattle.sha1.specs.Stream.{finishOf}
+use Rattle.sha1.specs.Stream.{finish}
 use Rattle.sha1.proofs.StreamLaws.{rest, length-rest, digest-from}
 
 -- the slice behind the whole blocks is the rest
@@ -16,7 +16,7 @@ rest-is m = take-all (length m - 64 * (length m / 64)) (rest m) (omega (arith, l
 
 -- the hash value after the whole blocks, and the rest in the tail, finish to SHA-1
 pub at-once : (m h r x : List ℕ) → h ≡ hashed m (length m / 64) → x ≡ take (length m - 64 * (length m / 64)) (rest m)
-    → r ≡ finishOf (record { h = h; tail = x; count = length m }) → r ≡ sha1 m
+    → r ≡ finish (record { h = h; tail = x; count = length m }) → r ≡ sha1 m
 at-once m h r x p i e =
     let f : x ≡ rest m = i ∙ rest-is m in
     e ∙ digest-from (record { h = h; tail = x; count = length m }) m p (rw f (take-all (length m % 64) (rest m) (omega (arith, length-rest m)))) refl

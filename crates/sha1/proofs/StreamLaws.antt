@@ -11,7 +11,7 @@ use lib.Dec.{ltb, eqb}
 use borrow.Author.Tests.{eqb-true, eqb-false, ltb-true, ltb-false}
 use Rattle.sha1.specs.declared.Stream.{Stream}
 use Rattle.sha1_block.specs.Sha1.{compressOf, hashed, zeros, pad, padding, lengthField, digestOf, sha1}
-use Rattle.sha1.specs.Stream.{begun, joinOf, joinAll, withLength, marked, finishOf}
+use Rattle.sha1.specs.Stream.{begin, join, joinAll, withLength, mark, finish}
 
 -- the bytes behind the whole blocks
 abbrev pub rest : List ℕ → List ℕ
@@ -23,7 +23,7 @@ pub record Holds (s : Stream) (m : List ℕ) : Type 0 where
   pub tail : s .tail ≡ rest m ++ replicate (64 - length m % 64) 0
   pub count : s .count ≡ length m
 
-pub holds-begun : Holds begun []
+pub holds-begun : Holds begin []
 unfolding hashed
 holds-begun = record { h = refl; tail = refl; count = refl }
 
@@ -56,8 +56,8 @@ module _ (s : Stream) (m : List ℕ) (b : ℕ) (r : Holds s m) where
       let e : 64 - length m % 64 ≡ suc (63 - length m % 64) = omega arith in
       rw (r .tail, r .count, e) (set-at (rest m) 0 (replicate (63 - length m % 64) 0) b (length m % 64) (length-rest m) ∙ sym (append-assoc (rest m) (b ∷ []) (replicate (63 - length m % 64) 0)))
 
-  pub holds-join : Holds (joinOf s b) (m ++ (b ∷ []))
-  unfolding joinOf hashed
+  pub holds-join : Holds (join s b) (m ++ (b ∷ []))
+  unfolding join hashed
   holds-join = go (eqb (s .count % 64) 63) refl
     where
       len : length (m ++ (b ∷ [])) ≡ length m + 1
@@ -90,7 +90,7 @@ module _ (s : Stream) (m : List ℕ) (b : ℕ) (r : Holds s m) where
 pub holds-all : (bs : List ℕ) (s : Stream) (m : List ℕ) → Holds s m → Holds (joinAll s bs) (m ++ bs)
 unfolding joinAll
 holds-all [] s m r = rw append-nil r
-holds-all (b ∷ bs) s m r = rw (← append-assoc m (b ∷ []) bs) (holds-all bs (joinOf s b) (m ++ (b ∷ [])) (holds-join s m b r))
+holds-all (b ∷ bs) s m r = rw (← append-assoc m (b ∷ []) bs) (holds-all bs (join s b) (m ++ (b ∷ [])) (holds-join s m b r))
 
 zeros-add : (a b : ℕ) → replicate (a + b) 0 ≡ replicate a 0 ++ replicate {A = ℕ} b 0
 zeros-add a b = sym (replicate-append-replicate a b 0)
@@ -119,8 +119,8 @@ unfolding pad
 blocks-padded m = omega (arith, length-append m (padding (length m)), length-append (replicate ((119 - length m % 64) % 64) 0) (lengthField (length m * 8)), length-replicate {A = ℕ} ((119 - length m % 64) % 64) 0)
 
 -- finishing the hash value after the whole blocks of m, with the rest of m in front of the tail, gives SHA-1 of m
-pub digest-from : (s : Stream) (m : List ℕ) → s .h ≡ hashed m (length m / 64) → take (s .count % 64) (s .tail) ≡ rest m → s .count ≡ length m → finishOf s ≡ sha1 m
-unfolding finishOf marked sha1 pad hashed
+pub digest-from : (s : Stream) (m : List ℕ) → s .h ≡ hashed m (length m / 64) → take (s .count % 64) (s .tail) ≡ rest m → s .count ≡ length m → finish s ≡ sha1 m
+unfolding finish mark sha1 pad hashed
 digest-from s m h w n = go (ltb (s .count % 64) 56) refl ∙ ap (λ (k : ℕ). digestOf (hashed (pad m) k)) (sym (blocks-padded m))
   where
     q : ℕ
@@ -138,8 +138,8 @@ digest-from s m h w n = go (ltb (s .count % 64) 56) refl ∙ ap (λ (k : ℕ). d
     at-n : s .count % 64 ≡ j
     at-n = ap (λ (k : ℕ). k % 64) n
 
-    mark : marked (s .tail) (s .count % 64) ≡ p ++ replicate (63 - j) 0
-    mark = rw (w, at-n) (sym (append-assoc (rest m) (0x80 ∷ []) (replicate (63 - j) 0)))
+    marked : mark (s .tail) (s .count % 64) ≡ p ++ replicate (63 - j) 0
+    marked = rw (w, at-n) (sym (append-assoc (rest m) (0x80 ∷ []) (replicate (63 - j) 0)))
 
     front : hashed (pad m) q ≡ s .h
     front = hashed-front m (padding (length m)) q (omega arith) ∙ sym h
@@ -149,7 +149,7 @@ digest-from s m h w n = go (ltb (s .count % 64) 56) refl ∙ ap (λ (k : ℕ). d
     behind = rest-append m (padding (length m)) ∙ sym (append-assoc (rest m) (0x80 ∷ []) (replicate ((119 - j) % 64) 0 ++ lengthField (length m * 8)))
 
     go : (t : Bool) → ltb (s .count % 64) 56 ≡ t
-        → cond t (digestOf (compressOf (s .h) (withLength (marked (s .tail) (s .count % 64)) (s .count)))) (digestOf (compressOf (compressOf (s .h) (marked (s .tail) (s .count % 64))) (withLength (replicate 64 0) (s .count))))
+        → cond t (digestOf (compressOf (s .h) (withLength (mark (s .tail) (s .count % 64)) (s .count)))) (digestOf (compressOf (compressOf (s .h) (mark (s .tail) (s .count % 64))) (withLength (replicate 64 0) (s .count))))
         ≡ digestOf (hashed (pad m) ((length m + 72) / 64))
     go true e =
         let f : s .count % 64 < 56 = ltb-true (s .count % 64) 56 e in
@@ -165,7 +165,7 @@ digest-from s m h w n = go (ltb (s .count % 64) 56) refl ∙ ap (λ (k : ℕ). d
           z,
           b,
           take-all 64 ((p ++ replicate (55 - j) 0) ++ lengthField (length m * 8)) (omega arith),
-          mark,
+          marked,
           n,
           field-at-end p (55 - j) (63 - j) (lengthField (length m * 8)) (omega (arith, len-p, at-n)) refl (omega (arith, at-n)),
         ) refl
@@ -183,17 +183,17 @@ digest-from s m h w n = go (ltb (s .count % 64) 56) refl ∙ ap (λ (k : ℕ). d
         let g : drop (64 * q) (pad m) ≡ c ++ d = behind ∙ ap (λ (k : ℕ). p ++ (replicate k 0 ++ lengthField (length m * 8))) z ∙ b in
         let u : drop (64 * suc q) (pad m) ≡ d =
         ap (λ (k : ℕ). drop k (pad m)) (mul-suc 64 q) ∙ sym (drop-drop 64 (64 * q) (pad m)) ∙ ap (λ (x : List ℕ). drop 64 x) g ∙ drop-at c d 64 l in
-        rw (i, u, front, g, take-at c d 64 l, mark, n) refl
+        rw (i, u, front, g, take-at c d 64 l, marked, n) refl
 
 -- finishing a state that stands for m gives SHA-1 of m
-pub digest-of : (s : Stream) (m : List ℕ) → Holds s m → finishOf s ≡ sha1 m
+pub digest-of : (s : Stream) (m : List ℕ) → Holds s m → finish s ≡ sha1 m
 digest-of s m r =
     let front : take (s .count % 64) (s .tail) ≡ rest m = rw (r .tail, r .count) (take-at (rest m) (replicate (64 - length m % 64) 0) (length m % 64) (length-rest m)) in
     digest-from s m (r .h) front (r .count)
 
 -- a stream that is begun and that the bytes of m join, each in turn, gives SHA-1 of m
-pub digest : (m : List ℕ) → finishOf (joinAll begun m) ≡ sha1 m
-digest m = digest-of (joinAll begun m) m (holds-all m begun [] holds-begun)
+pub digest : (m : List ℕ) → finish (joinAll begin m) ≡ sha1 m
+digest m = digest-of (joinAll begin m) m (holds-all m begin [] holds-begun)
 
 -- joining nothing, one message after another, and one byte more; and the count
 pub all-none : (s : Stream) → joinAll s [] ≡ s
@@ -203,22 +203,22 @@ all-none s = refl
 pub all-append : (m x : List ℕ) (s : Stream) → joinAll s (m ++ x) ≡ joinAll (joinAll s m) x
 unfolding joinAll
 all-append [] x s = refl
-all-append (b ∷ m) x s = all-append m x (joinOf s b)
+all-append (b ∷ m) x s = all-append m x (join s b)
 
-pub all-snoc : (m : List ℕ) (b : ℕ) (s : Stream) → joinAll s (m ++ (b ∷ [])) ≡ joinOf (joinAll s m) b
+pub all-snoc : (m : List ℕ) (b : ℕ) (s : Stream) → joinAll s (m ++ (b ∷ [])) ≡ join (joinAll s m) b
 unfolding joinAll
 all-snoc m b s = all-append m (b ∷ []) s
 
-pub join-count : (s : Stream) (b : ℕ) → joinOf s b .count ≡ s .count + 1
-unfolding joinOf
+pub join-count : (s : Stream) (b : ℕ) → join s b .count ≡ s .count + 1
+unfolding join
 join-count s b = refl
 
 pub all-count : (m : List ℕ) (s : Stream) → joinAll s m .count ≡ s .count + length m
 unfolding joinAll
 all-count [] s = omega arith
-all-count (b ∷ m) s = all-count m (joinOf s b) ∙ omega (arith, join-count s b)
+all-count (b ∷ m) s = all-count m (join s b) ∙ omega (arith, join-count s b)
 
 -- the state that `join_lent` leaves, from the words that it gives and the tail that it leaves
-pub join-parts : (s : Stream) (b : ℕ) (g t : List ℕ) → g ≡ joinOf s b .h → t ≡ joinOf s b .tail → record { h = g; tail = t; count = s .count + 1 } ≡ joinOf s b
-unfolding joinOf
+pub join-parts : (s : Stream) (b : ℕ) (g t : List ℕ) → g ≡ join s b .h → t ≡ join s b .tail → record { h = g; tail = t; count = s .count + 1 } ≡ join s b
+unfolding join
 join-parts s b g t p q = rw (p, q) refl

@@ -13,12 +13,12 @@ abbrev pub nothing : Stream
 nothing = record { h = replicate 5 0; tail = replicate 64 0; count = 0 }
 
 -- the message of no byte
-abbrev pub begun : Stream
-begun = record { h = first; tail = replicate 64 0; count = 0 }
+abbrev pub begin : Stream
+begin = record { h = first; tail = replicate 64 0; count = 0 }
 
 -- a byte goes behind the tail; the 64th makes it a block, which is hashed and leaves no tail
-unfoldable pub joinOf : Stream → ℕ → Stream
-joinOf s b =
+unfoldable pub join : Stream → ℕ → Stream
+join s b =
     record {
       h = cond (eqb (s .count % 64) 63) (compressOf (s .h) (set (s .tail) (s .count % 64) b)) (s .h);
       tail = cond (eqb (s .count % 64) 63) (replicate 64 0) (set (s .tail) (s .count % 64) b);
@@ -28,19 +28,19 @@ joinOf s b =
 -- bytes join, each in turn
 unfoldable pub joinAll : Stream → List ℕ → Stream
 joinAll s [] = s
-joinAll s (b ∷ m) = joinAll (joinOf s b) m
+joinAll s (b ∷ m) = joinAll (join s b) m
 
 -- a block with the length of n bytes in its last eight
 abbrev pub withLength : List ℕ → ℕ → List ℕ
 withLength block n = sets block 56 (lengthField (n * 8))
 
 -- the first n bytes of the tail, 80h behind them, and 00h to the end of the block: what the tail has behind those bytes doesn't count
-unfoldable pub marked : List ℕ → ℕ → List ℕ
-marked tail n = take n tail ++ (0x80 ∷ replicate (63 - n) 0)
+unfoldable pub mark : List ℕ → ℕ → List ℕ
+mark tail n = take n tail ++ (0x80 ∷ replicate (63 - n) 0)
 
 -- the length goes into the marked block if eight bytes are left there, and else into one more
-unfoldable pub finishOf : Stream → List ℕ
-finishOf s =
+unfoldable pub finish : Stream → List ℕ
+finish s =
     cond (ltb (s .count % 64) 56)
-    (digestOf (compressOf (s .h) (withLength (marked (s .tail) (s .count % 64)) (s .count))))
-    (digestOf (compressOf (compressOf (s .h) (marked (s .tail) (s .count % 64))) (withLength (replicate 64 0) (s .count))))
+    (digestOf (compressOf (s .h) (withLength (mark (s .tail) (s .count % 64)) (s .count))))
+    (digestOf (compressOf (compressOf (s .h) (mark (s .tail) (s .count % 64))) (withLength (replicate 64 0) (s .count))))

@@ -3,7 +3,7 @@ ghost use mathlib.Core.Path.{_≡_};
 ghost use Prim.Native.Nat.{_<_, _≤_, _^_, _%_};
 ghost use lib.ListN.{length};
 ghost use Rattle.sha1_block.specs.Sha1.{digestOf};
-ghost use Rattle.sha1.specs.Stream.{finishOf, marked, withLength};
+ghost use Rattle.sha1.specs.Stream.{finish, mark as markSpec, withLength};
 use sha1_block::block::compress;
 use sha1_block::word::store;
 
@@ -36,7 +36,7 @@ fn with_length(block: [u8; 64], n: u64) -> [u8; 64]
 fn mark(tail: &[u8], n: usize) -> [u8; 64]
     requires { ⌜ n < 64 ⌝ }
     requires { ⌜ n ≤ length (now tail) ⌝ }
-    ensures { λ r. ⌜ r ≡ marked (now (tail .entry)) n ⌝ }
+    ensures { λ r. ⌜ r ≡ markSpec (now (tail .entry)) n ⌝ }
 {
     let mut t = [0u8; 64];
     bytes::copy(&tail[..n], &mut t);
@@ -48,7 +48,7 @@ fn mark(tail: &[u8], n: usize) -> [u8; 64]
 pub fn close(h: [u32; 5], tail: &[u8], n: u64) -> [u8; 20]
     requires { ⌜ n < 2 ^ 61 ⌝ }
     requires { ⌜ n % 64 ≤ length (now tail) ⌝ }
-    ensures { λ r. ⌜ r ≡ finishOf (record { h = h; tail = now (tail .entry); count = n }) ⌝ }
+    ensures { λ r. ⌜ r ≡ finish (record { h = h; tail = now (tail .entry); count = n }) ⌝ }
 {
     let at = (n % 64) as usize;
     let t = mark(tail, at);

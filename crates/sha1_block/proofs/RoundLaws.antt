@@ -28,14 +28,30 @@ module _ (q t : ℕ) (l : 20 * q ≤ t) (u : t < 20 * q + 20) where
   unfolding K
   K-of = rw (alike 1, alike 2, alike 3) refl
 
--- round t after the rounds from 20 q to t - 1
-pub one-more : (q : ℕ) (w : List ℕ) (t : ℕ) (v₀ v r : Vars) (x k : ℕ) → v ≡ rounds w (20 * q) (t - 20 * q) v₀ → 20 * q ≤ t → t < 20 * q + 20
-    → x ≡ f (20 * q) (v .b) (v .c) (v .d) → k ≡ K (20 * q) → r ≡ roundBy x k (getD w t 0) v → r ≡ rounds w (20 * q) (t + 1 - 20 * q) v₀
+-- what each of the four loops keeps: v is what v₀ has become before round t of the twenty from 20 q on
+pub record Twenty (q : ℕ) (w : List ℕ) (v₀ v : Vars) (t : ℕ) : Type 0 where
+  pub done : v ≡ rounds w (20 * q) (t - 20 * q) v₀
+  pub from : 20 * q ≤ t
+  pub to : t ≤ 20 * q + 20
+
+pub twenty-begin : (q : ℕ) (w : List ℕ) (v : Vars) → Twenty q w v v (20 * q)
 unfolding rounds
-one-more q w t v₀ v r x k i l u p p′ e =
+twenty-begin q w v = let e : 20 * q - 20 * q ≡ 0 = omega arith in record { done = rw e refl; from = omega arith; to = omega arith }
+
+pub twenty-more : (q : ℕ) (w : List ℕ) (v₀ v r : Vars) (t x k : ℕ) → Twenty q w v₀ v t → t < 20 * q + 20 → x ≡ f (20 * q) (v .b) (v .c) (v .d) → k ≡ K (20 * q)
+    → r ≡ roundBy x k (getD w t 0) v → Twenty q w v₀ r (t + 1)
+unfolding rounds
+twenty-more q w v₀ v r t x k i u p p′ e =
+    let l : 20 * q ≤ t = i .from in
     let n : t + 1 - 20 * q ≡ suc (t - 20 * q) = omega arith in
     let m : 20 * q + (t - 20 * q) ≡ t = omega arith in
-    rw (n, m, f-of q t l u, K-of q t l u, ← i, ← p, ← p′) e
+    record { done = rw (n, m, f-of q t l u, K-of q t l u, ← i .done, ← p, ← p′) e; from = omega arith; to = omega arith }
+
+pub twenty-end : (q : ℕ) (w : List ℕ) (v₀ v : Vars) (t : ℕ) → Twenty q w v₀ v t → 20 * q + 20 ≤ t → v ≡ rounds w (20 * q) 20 v₀
+twenty-end q w v₀ v t i u =
+    let l : t ≤ 20 * q + 20 = i .to in
+    let e : t - 20 * q ≡ 20 = omega arith in
+    rw e at (i .done)
 
 -- n rounds after k rounds are k + n rounds
 pub rounds-after : (w : List ℕ) (s k n : ℕ) (v : Vars) → rounds w (s + k) n (rounds w s k v) ≡ rounds w s (k + n) v

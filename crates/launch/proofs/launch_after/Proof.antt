@@ -9,15 +9,8 @@ pub launch-after-spec : {M : Type 1} → statement M
 unfolding launchAfter
 launch-after-spec =
     tie.close
-    (tie.spec
-    (λ c. search needs)
-    (λ c. search needs)
-    (λ c κs. search needs)
-    (λ c. search needs)
+    (tie.spec (λ c. search needs) (λ c κs. search needs) (λ c. search needs) (λ c κs. search needs) (λ c. search needs)
     (λ c κs. search (needs, data-fits))
-    (λ c. search needs)
-    (λ c κs. search needs)
-    (λ c. search (needs, launch-case))
-    (λ c. search (needs, launch-case))
-    (λ c. search (needs, launch-case))
-    (λ c. search (needs, launch-case)))
+    (λ c. search needs) (λ c. search needs)
+    (λ c. search (needs, launch-case)) (λ c. search (needs, launch-case)) (λ c. search (needs, launch-case))
+    (λ c. search (needs, launch-case)) (λ c. search (needs, launch-case)))

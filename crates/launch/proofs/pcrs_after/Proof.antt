@@ -9,14 +9,7 @@ pub pcrs-after-spec : {M : Type 1} → statement M
 unfolding pcrsAfter
 pcrs-after-spec =
     tie.close
-    (tie.spec
+    (tie.spec (λ c. search needs) (λ c κs. search needs) (λ c. search needs) (λ c κs. search needs) (λ c. search needs) (λ c. search needs)
     (λ c. search needs)
-    (λ c. search needs)
-    (λ c κs. search needs)
-    (λ c. search needs)
-    (λ c. search needs)
-    (λ c κs. search needs)
-    (λ c. search (needs, pcrs-case))
-    (λ c. search (needs, pcrs-case))
-    (λ c. search (needs, pcrs-case))
+    (λ c. search (needs, pcrs-case)) (λ c. search (needs, pcrs-case)) (λ c. search (needs, pcrs-case)) (λ c. search (needs, pcrs-case))
     (λ c. search (needs, pcrs-case)))

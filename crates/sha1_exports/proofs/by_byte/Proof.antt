@@ -8,29 +8,29 @@ use lib.ListN.{length, getD, take}
 use lib.Seq.{take-suc, take-all}
 use Rattle.sha1.specs.declared.Stream.{Stream}
 use Rattle.sha1_block.specs.Sha1.{sha1}
-use Rattle.sha1.specs.Stream.{begun, joinOf, joinAll, finishOf}
+use Rattle.sha1.specs.Stream.{begin, join, joinAll, finish}
 use Rattle.sha1.proofs.StreamLaws.{all-none, all-snoc, join-parts, digest}
 use borrow.Author.Needs.{needs}
 use Rattle.sha1_exports.proofs.by_byte.Statement.{statement}
 use Rattle.sha1_exports.proofs.by_byte.Tie as tie
 
 abbrev Inv-loop : tie.InvT-loop
-Inv-loop m h₀ tail₀ i₀ h tail i = (record { h = h; tail = tail; count = i } ≡ joinAll begun (take i m)) × (i ≤ length m)
+Inv-loop m h₀ tail₀ i₀ h tail i = (record { h = h; tail = tail; count = i } ≡ joinAll begin (take i m)) × (i ≤ length m)
 
 abbrev μ-loop : tie.MeasureT-loop
 μ-loop m h₀ tail₀ i₀ h tail i = length m - i
 
-one-more : (m : List ℕ) (s : Stream) (g t : List ℕ) → s ≡ joinAll begun (take (s .count) m) → s .count < length m → g ≡ joinOf s (getD m (s .count) 0) .h → t ≡ joinOf s (getD m (s .count) 0) .tail
-    → record { h = g; tail = t; count = s .count + 1 } ≡ joinAll begun (take (s .count + 1) m)
+one-more : (m : List ℕ) (s : Stream) (g t : List ℕ) → s ≡ joinAll begin (take (s .count) m) → s .count < length m → g ≡ join s (getD m (s .count) 0) .h → t ≡ join s (getD m (s .count) 0) .tail
+    → record { h = g; tail = t; count = s .count + 1 } ≡ joinAll begin (take (s .count + 1) m)
 one-more m s g t e l p q =
     let b : ℕ = getD m (s .count) 0 in
-    join-parts s b g t p q ∙ ap (λ (z : Stream). joinOf z b) e ∙ rw (add-one, take-suc m (s .count) 0 l) (sym (all-snoc (take (s .count) m) b begun))
+    join-parts s b g t p q ∙ ap (λ (z : Stream). join z b) e ∙ rw (add-one, take-suc m (s .count) 0 l) (sym (all-snoc (take (s .count) m) b begin))
 
-all-joined : (m r : List ℕ) (s : Stream) → s ≡ joinAll begun (take (s .count) m) → length m ≤ s .count → r ≡ finishOf s → r ≡ sha1 m
-all-joined m r s e l p = p ∙ ap finishOf (e ∙ ap (λ (x : List ℕ). joinAll begun x) (take-all (s .count) m l)) ∙ digest m
+all-joined : (m r : List ℕ) (s : Stream) → s ≡ joinAll begin (take (s .count) m) → length m ≤ s .count → r ≡ finish s → r ≡ sha1 m
+all-joined m r s e l p = p ∙ ap finish (e ∙ ap (λ (x : List ℕ). joinAll begin x) (take-all (s .count) m l)) ∙ digest m
 
 loop-holds : tie.Need-loop-holds Inv-loop μ-loop
-loop-holds c = (rw (c .before .before .begin .ensures) (sym (all-none begun)), omega arith)
+loop-holds c = (rw (c .before .before .begin .ensures) (sym (all-none begin)), omega arith)
 
 loop-again : tie.Need-loop-again Inv-loop μ-loop
 loop-again c =

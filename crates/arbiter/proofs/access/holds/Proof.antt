@@ -1,6 +1,6 @@
 -- `arbiter::access::holds` meets its contract. Assumes nothing.
-use borrow.Author.Needs.{needs}
 use Rattle.arbiter.proofs.RuleLaws.{holds-case}
+use borrow.Author.Needs.{needs}
 use Rattle.arbiter.proofs.access.holds.Statement.{statement}
 use Rattle.arbiter.proofs.access.holds.Tie as tie
 

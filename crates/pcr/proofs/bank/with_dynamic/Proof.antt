@@ -17,13 +17,8 @@ abbrev μ-loop : tie.MeasureT-loop
 pub with-dynamic-spec : {M : Type 1} → statement M
 with-dynamic-spec =
     tie.close
-    (tie.spec
-    Inv-loop
-    μ-loop
+    (tie.spec Inv-loop μ-loop
     (λ c. search (needs, paste-zero))
-    (λ c. search needs)
-    (λ c. search needs)
-    (λ c. search needs)
-    (λ c. search needs)
+    (λ c. search needs) (λ c. search needs) (λ c. search needs) (λ c. search needs)
     (λ c. search (needs, stored-more, lt-trans))
     (λ c. search (needs, stored-all)))

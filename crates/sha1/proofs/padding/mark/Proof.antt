@@ -5,7 +5,7 @@ use Prim.Native.Nat.{ℕ, suc, _+_, _-_, _≤_, _<_}
 use native.Mathlib.Omega.{arith}
 use lib.ListN.{length, set, take, drop, replicate, length-replicate, replicate-append-replicate}
 use lib.Seq.{set-at, take-length, length-take-le, drop-at}
-use Rattle.sha1.specs.Stream.{marked}
+use Rattle.sha1.specs.Stream.{mark}
 use borrow.Author.Needs.{needs}
 use Rattle.sha1.proofs.padding.mark.Statement.{statement}
 use Rattle.sha1.proofs.padding.mark.Tie as tie
@@ -22,8 +22,8 @@ part-long x n l = sym (length-take-le n x l)
 part-fits : (x : List ℕ) (n : ℕ) → n < 64 → n ≤ length x → length (take n x) ≤ 64
 part-fits x n i l = omega (arith, part-long x n l)
 
-copied-marked : (x t : List ℕ) (n : ℕ) → n < 64 → n ≤ length x → t ≡ take (length (take n x)) (take n x) ++ drop (length (take n x)) (replicate 64 0) → set t n 0x80 ≡ marked x n
-unfolding marked
+copied-marked : (x t : List ℕ) (n : ℕ) → n < 64 → n ≤ length x → t ≡ take (length (take n x)) (take n x) ++ drop (length (take n x)) (replicate 64 0) → set t n 0x80 ≡ mark x n
+unfolding mark
 copied-marked x t n i l e =
     let k : 64 - n ≡ suc (63 - n) = omega arith in
     let z : drop n (replicate {A = ℕ} 64 0) ≡ 0 ∷ replicate (63 - n) 0 = zeros-left 64 n (omega arith) ∙ ap (λ (j : ℕ). replicate j 0) k in

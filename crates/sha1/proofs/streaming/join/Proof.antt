@@ -1,11 +1,11 @@
 -- What the lent form gives, and one byte more. Assumes nothing.
-use Rattle.sha1.specs.Stream.{joinOf}
+use Rattle.sha1.specs.Stream.{join}
 use borrow.Author.Needs.{needs}
 use Rattle.sha1.proofs.streaming.join.Statement.{statement}
 use Rattle.sha1.proofs.streaming.join.Tie as tie
 
 returns : tie.Need-returns
-unfolding joinOf
+unfolding join
 returns c = cc
 
 pub join-spec : {M : Type 1} → statement M

@@ -1,0 +1,4 @@
+pub mod ModelLaws
+pub mod Invariant
+pub mod Fairness
+pub mod Arbitration

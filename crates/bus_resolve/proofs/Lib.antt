@@ -1,0 +1,2 @@
+pub mod ResolveLaws
+pub mod Cases

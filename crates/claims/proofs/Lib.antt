@@ -1,0 +1,12 @@
+pub mod Steps
+pub mod Bridge
+pub mod CallCases
+pub mod Unchanged
+pub mod Book
+pub mod Demand3
+pub mod Example
+pub mod Launch
+pub mod PcrEvents
+pub mod StaleAnswers
+pub mod Residue
+pub mod Theorems

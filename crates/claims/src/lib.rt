@@ -1,0 +1,1 @@
+// What holds over whole lists of calls: statements and theorems alone, no code.

@@ -1,0 +1,57 @@
+// Plays the lines of the sheet: each is a call of the register front and a line that shows what it gave.
+use crate::calls::pcr;
+use crate::calls::power_on;
+use crate::calls::read;
+use crate::calls::respond;
+use crate::calls::run;
+use crate::calls::text;
+use crate::calls::unknown;
+use crate::calls::write;
+use conformance_lines::line::Step;
+use conformance_lines::line::parsed;
+use record::Device;
+
+// A line that has no letter is a heading, or empty: nothing is done.
+fn take(device: Device, w: &mut [u8], r: &mut [u8], s: Step) -> Device {
+    let kind = s.kind;
+    match kind {
+        b'p' => power_on(w, r, s),
+        b'w' => write(device, w, r, s),
+        b'm' => text(device, w, r, s),
+        b'r' => read(device, w, r, s),
+        b'e' => respond(device, w, r, s),
+        b'n' => run(device, s),
+        b'v' => pcr(device, s),
+        b' ' => device,
+        _ => unknown(device, s),
+    }
+}
+
+// A character joins the line, if there is room.
+fn join(line: &mut [u8], at: usize, c: u8) {
+    if at < line.len() {
+        line[at] = c;
+    }
+}
+
+// Before the first power-on line the record is a fresh one.
+pub fn play(w: &mut [u8], r: &mut [u8], sheet: &[u8]) {
+    let mut d = record::fresh_device(false, [0u8; 5], 0);
+    let mut line = [b' '; 72];
+    let mut at: usize = 0;
+    let mut i: usize = 0;
+    while i < sheet.len() {
+        let c = sheet[i];
+        i += 1;
+        if c == b'\n' {
+            d = take(d, w, r, parsed(line));
+            line = [b' '; 72];
+            at = 0;
+        } else {
+            join(&mut line, at, c);
+            at += 1;
+        }
+    }
+    // the last line may lack its end
+    take(d, w, r, parsed(line));
+}

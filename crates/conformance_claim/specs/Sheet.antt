@@ -1,0 +1,190 @@
+-- The bench sheet (document 01, 'Bench sheet (C = 1,024, not established)'): P1 to P12, each a list of calls from a fresh power-on,
+-- with what each of them has to give. Its numerals are the paper's. Assumes nothing.
+use Prim.Native.Nat.{ℕ}
+use mathlib.Core.Path.{_≡_}
+use mathlib.Core.Bool.{false}
+use mathlib.Core.List.{List, [], _∷_, _++_}
+use lib.ListN.{replicate}
+use Rattle.record.specs.declared.Device.{Device}
+use Rattle.claims.specs.Calls as call
+use Rattle.claims.specs.Calls.{State, state, Value, byte, nothing, Answer, called, left}
+
+-- ---- what a line of the sheet says
+
+pub data Line : Type 0 where
+  -- offset, byte: the write is accepted
+  write : ℕ → ℕ → Line
+  -- offset, byte: so too, and it changes nothing
+  ignored : ℕ → ℕ → Line
+  -- offset, byte: the read is accepted and gives the byte
+  reads : ℕ → ℕ → Line
+  -- offset, number: a read and a write of 00h are refused with the number
+  refused : ℕ → ℕ → Line
+  -- the record's run number
+  run : ℕ → Line
+
+-- ---- how the lines are played: each call is handed what the last one left
+
+-- "accepted"
+abbrev pub accepted : ℕ
+accepted = 0
+
+-- "fresh": a power-on with FIFOs of 1,024 bytes, "not established", the identity bytes 0; d is whatever was there
+abbrev pub fresh : Device → State
+fresh d = left (call.powerOn false (replicate 5 0)) (state d (replicate 1024 0) (replicate 1024 0))
+
+abbrev pub afterRead : State → ℕ → State
+afterRead s o = left (call.read o) s
+
+abbrev pub afterWrite : State → ℕ → ℕ → State
+afterWrite s o v = left (call.write o v) s
+
+-- what is looked at: a run number, a call's answer, or all that it leaves
+pub data Seen : Type 0 where
+  number : ℕ → Seen
+  answered : Answer → Seen
+  all : State → Seen
+
+-- what is seen, and what the sheet wants to be seen
+pub record Check : Type 0 where
+  pub got : Seen
+  pub wanted : Seen
+
+abbrev pub numbered : ℕ → ℕ → Check
+numbered g w = record { got = number g; wanted = number w }
+
+abbrev pub answers : Answer → ℕ → Value → Check
+answers g n v = record { got = answered g; wanted = answered (record { refusal = n; value = v }) }
+
+-- t was left where s was handed
+abbrev pub unchanged : State → State → Check
+unchanged t s = record { got = all t; wanted = all s }
+
+-- "a refused read gives FFh"
+unfoldable pub checks : State → List Line → List Check
+checks s [] = []
+checks s (write o v ∷ l) = answers (called (call.write o v) s .answer) accepted nothing ∷ checks (afterWrite s o v) l
+checks s (ignored o v ∷ l) = answers (called (call.write o v) s .answer) accepted nothing ∷ unchanged (afterWrite s o v) s ∷ checks (afterWrite s o v) l
+checks s (reads o v ∷ l) = answers (called (call.read o) s .answer) accepted (byte v) ∷ checks (afterRead s o) l
+checks s (refused o n ∷ l) =
+    answers (called (call.read o) s .answer) n (byte 0xff)
+    ∷ answers (called (call.write o 0x00) (afterRead s o) .answer) n nothing
+    ∷ checks (afterWrite (afterRead s o) o 0x00) l
+checks s (run n ∷ l) = numbered (s .device .control .run) n ∷ checks s l
+
+abbrev pub gots : List Check → List Seen
+gots [] = []
+gots (c ∷ l) = c .got ∷ gots l
+
+abbrev pub wants : List Check → List Seen
+wants [] = []
+wants (c ∷ l) = c .wanted ∷ wants l
+
+-- what is seen is what is wanted, line by line
+abbrev pub Holds : State → List Line → Type 0
+Holds s l = gots (checks s l) ≡ wants (checks s l)
+
+-- ---- the sheet
+
+-- "P1 fresh: 0000 reads 81h."
+abbrev pub p1 : List Line
+p1 = reads 0x0000 0x81 ∷ []
+
+-- "P2 write 02 at 0000: reads A1h."
+abbrev pub p2 : List Line
+p2 = write 0x0000 0x02 ∷ reads 0x0000 0xa1 ∷ []
+
+-- "P3 then 02 at 2000: 2000 reads 87h, 0000 reads A5h."
+abbrev pub p3 : List Line
+p3 = p2 ++ (write 0x2000 0x02 ∷ reads 0x2000 0x87 ∷ reads 0x0000 0xa5 ∷ [])
+
+-- "P4 then 02 at 3000 and 20 at 0000: 3000 reads A5h."
+abbrev pub p4 : List Line
+p4 = p3 ++ (write 0x3000 0x02 ∷ write 0x0000 0x20 ∷ reads 0x3000 0xa5 ∷ [])
+
+-- "P5 08 at 2000: nothing."
+abbrev pub p5 : List Line
+p5 = p4 ++ (ignored 0x2000 0x08 ∷ [])
+
+-- "P6 08 at 4000: 3000 reads 95h."
+abbrev pub p6 : List Line
+p6 = p5 ++ (write 0x4000 0x08 ∷ reads 0x3000 0x95 ∷ [])
+
+-- "P7 fresh, 02 at 0000, 40 at 0018: STS C0h, 0019 reads 40h."
+abbrev pub p7 : List Line
+p7 = write 0x0000 0x02 ∷ write 0x0018 0x40 ∷ reads 0x0018 0xc0 ∷ reads 0x0019 0x40 ∷ []
+
+-- a command's first six bytes, of which the last two are the low ones of the size; bytes that the sheet leaves free are 00h
+abbrev pub head : ℕ → ℕ → List ℕ
+head high low = 0x00 ∷ 0xc1 ∷ 0x00 ∷ 0x00 ∷ high ∷ low ∷ []
+
+abbrev pub free : ℕ → List ℕ
+free n = replicate n 0x00
+
+-- a FIFO write for each byte, and a FIFO read
+abbrev pub send : List ℕ → List Line
+send [] = []
+send (v ∷ b) = write 0x0024 v ∷ send b
+
+abbrev pub receive : List ℕ → List Line
+receive [] = []
+receive (v ∷ b) = reads 0x0024 v ∷ receive b
+
+-- "00 C4 00 00 00 0A 00 00 00 19"
+abbrev pub badSize : List ℕ
+badSize = 0x00 ∷ 0xc4 ∷ 0x00 ∷ 0x00 ∷ 0x00 ∷ 0x0a ∷ 0x00 ∷ 0x00 ∷ 0x00 ∷ 0x19 ∷ []
+
+-- the rest of a command: n free bytes, after which more is expected, and the last one, after which it is not
+abbrev pub complete : ℕ → List Line
+complete n = send (free n) ++ (reads 0x0018 0x88 ∷ []) ++ send (free 1) ++ (reads 0x0018 0x80 ∷ [])
+
+-- go, and the command runs as run n: no answer is there yet
+abbrev pub runs : ℕ → List Line
+runs n = write 0x0018 0x20 ∷ run n ∷ reads 0x0018 0x80 ∷ reads 0x0024 0xff ∷ []
+
+-- burstCount, below 256
+abbrev pub burst : ℕ → List Line
+burst n = reads 0x0019 n ∷ reads 0x001a 0 ∷ []
+
+-- "P8 after 00 C1 00 00 00 0A: 88h, go ignored; after ten bytes 80h, an eleventh ignored; go: run 1."
+abbrev pub p8 : List Line
+p8 =
+    p7
+    ++ (send (head 0x00 0x0a) ++ (reads 0x0018 0x88 ∷ ignored 0x0018 0x20 ∷ []) ++ complete 3
+    ++ (ignored 0x0024 0xff ∷ []) ++ runs 1)
+
+-- "P9 size 9: nine bytes, go, STS 90h; ten bytes read, then FFh and 80h; retry, 90h."
+abbrev pub p9 : List Line
+p9 =
+    p7
+    ++ (send (head 0x00 0x09) ++ complete 2 ++ (write 0x0018 0x20 ∷ reads 0x0018 0x90 ∷ []) ++ receive badSize
+    ++ (reads 0x0024 0xff ∷ reads 0x0018 0x80 ∷ write 0x0018 0x02 ∷ reads 0x0018 0x90 ∷ []))
+
+-- "P10 size 1,024 runs; .."
+abbrev pub p10 : List Line
+p10 = p7 ++ (send (head 0x04 0x00) ++ complete 1017 ++ runs 1)
+
+-- ".. 1,025 is answered 19h after 1,024 bytes."
+abbrev pub p10′ : List Line
+p10′ = p7 ++ (send (head 0x04 0x01) ++ complete 1017 ++ (write 0x0018 0x20 ∷ run 0 ∷ []) ++ receive badSize)
+
+-- "P11 size 1,024, burst at 960 received: 64; at 961: 63; at 1,023: 1."
+abbrev pub p11 : List Line
+p11 =
+    p7
+    ++ (send (head 0x04 0x00) ++ send (free 954) ++ burst 64 ++ send (free 1) ++ burst 63 ++ send (free 62) ++ burst 1)
+
+-- "P12 4FFFh reads FFh; 5000h is refused, 1."
+abbrev pub p12 : List Line
+p12 = reads 0x4fff 0xff ∷ refused 0x5000 1 ∷ []
+
+abbrev pub sheet : List (List Line)
+sheet = p1 ∷ p2 ∷ p3 ∷ p4 ∷ p5 ∷ p6 ∷ p7 ∷ p8 ∷ p9 ∷ p10 ∷ p10′ ∷ p11 ∷ p12 ∷ []
+
+-- the claim: every entry holds, from a fresh power-on
+abbrev pub Each : State → List (List Line) → Type 0
+Each s [] = Unit
+Each s (e ∷ l) = Holds s e × Each s l
+
+abbrev pub SheetHolds : Type 0
+SheetHolds = (d : Device) → Each (fresh d) sheet

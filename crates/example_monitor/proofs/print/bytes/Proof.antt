@@ -1,0 +1,18 @@
+-- Each turn prints one byte. Assumes nothing.
+use Prim.Native.Nat.{_-_, _≤_}
+use lib.ListN.{length}
+use borrow.Author.Needs.{needs}
+use Rattle.example_monitor.proofs.print.bytes.Statement.{statement}
+use Rattle.example_monitor.proofs.print.bytes.Tie as tie
+
+abbrev Inv-loop : tie.InvT-loop
+Inv-loop name shown refusal i₀ i = i ≤ length shown
+
+abbrev μ-loop : tie.MeasureT-loop
+μ-loop name shown refusal i₀ i = length shown - i
+
+pub bytes-spec : {M : Type 1} → statement M
+bytes-spec =
+    tie.close
+    (tie.spec Inv-loop μ-loop (λ c κs. search needs) (λ c. search needs) (λ c. search needs) (λ c κs. search needs) (λ c. search needs)
+    (λ c. search needs) (λ c. search needs) (λ c κs. search needs) (λ c. search needs))

@@ -1,7 +1,0 @@
--- `launch::begun` meets its contract. Assumes nothing.
-use borrow.Author.Needs.{needs}
-use Rattle.launch.proofs.begun.Statement.{statement}
-use Rattle.launch.proofs.begun.Tie as tie
-
-pub begun-spec : {M : Type 1} → statement M
-begun-spec = tie.close (tie.spec (λ c κs. search needs) (λ c. cc))

@@ -1,0 +1,4 @@
+pub mod Offsets
+pub mod AccessBits
+pub mod StsBits
+pub mod InterruptBits

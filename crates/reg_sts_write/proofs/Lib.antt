@@ -1,0 +1,2 @@
+pub mod StsLaws
+pub mod Cases

@@ -1,5 +1,0 @@
-pub mod ModelLaws
-pub mod Invariant
-pub mod Fairness
-pub mod Arbitration
-pub mod Example

@@ -1,4 +1,0 @@
-pub mod Bits
-pub mod Model
-pub mod Waits
-pub mod Claims
