@@ -24,14 +24,14 @@ use Rattle.arbiter_model.proofs.Invariant.{Sound}
 
 -- ---- flags
 
-getD-put : (l : List Bool) (x y : ℕ) (v : Bool) → x < length l → put (λ z. getD l z false) x v y ≡ getD (set l x v) y false
+pub getD-put : (l : List Bool) (x y : ℕ) (v : Bool) → x < length l → put (λ z. getD l z false) x v y ≡ getD (set l x v) y false
 getD-put l x y v h = by (eqb y x) refl
   where
     by : (t : Bool) → eqb y x ≡ t → cond t v (getD l y false) ≡ getD (set l x v) y false
     by true e = rw (eqb-true y x e) (sym (getD-set-same l x v false h))
     by false e = sym (getD-set-other l x y v false (eqb-false y x e))
 
-highest-agrees : (n : ℕ) (l : List Bool) → highestBelow n (λ y. getD l y false) ≡ holder (rule.highestBelow n l)
+pub highest-agrees : (n : ℕ) (l : List Bool) → highestBelow n (λ y. getD l y false) ≡ holder (rule.highestBelow n l)
 highest-agrees zero l = refl
 highest-agrees (suc n) l = by (getD l n false) (highest-agrees n l)
   where

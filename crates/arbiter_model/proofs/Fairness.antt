@@ -240,15 +240,21 @@ handed-above x m (e ∷ es) l w = rw (during-on x m e es w) (by (step m e .waiti
         omega (arith, hand-above x m e l w, one-is (step m e .waiting x) q, ih q, sum-add (4 - x) x (λ y. one (servesAt y m e)) (λ y. servings y (step m e) d))
     by false q ih = rw (during-off x (step m e) es q) (rw q (omega (arith, one≤ (handsOver m e))))
 
+-- the event after the first n makes x active, and ends its wait
+record Ends (x : ℕ) (m : Model) (es : List Event) : Type 0 where
+  n : ℕ
+  waits : run m (take n es) .waiting x ≡ true
+  before : during x m (take n es) ≡ take n es
+  whole : during x m es ≡ take (suc n) es
+  active : run m (take (suc n) es) .active ≡ held x
+
 -- where the wait ends x is active, or the list is over
 ended : (x : ℕ) (m : Model) (es : List Event) → m .waiting x ≡ true
     → tally (isRelease x) (during x m es) ≡ 0 → tally isRestart (during x m es) ≡ 0
-    → ((run m (during x m es) .waiting x ≡ true) × (during x m es ≡ es)) ⊎ (run m (during x m es) .active ≡ held x)
+    → ((run m es .waiting x ≡ true) × (during x m es ≡ es)) ⊎ Ends x m es
 unfolding run tally
-ended x m [] w p q = rw during-nil (inl (w, refl))
-ended x m (e ∷ es) w p q =
-    rw (during-on x m e es w)
-    (by (step m e .waiting x) refl (rw (during-on x m e es w) at p) (rw (during-on x m e es w) at q) (ended x (step m e) es))
+ended x m [] w p q = inl (w, during-nil x m)
+ended x m (e ∷ es) w p q = by (step m e .waiting x) refl (rw (during-on x m e es w) at p) (rw (during-on x m e es w) at q) (ended x (step m e) es)
   where
     d : List Event
     d = during x (step m e) es
@@ -257,21 +263,36 @@ ended x m (e ∷ es) w p q =
     off true n h = absurd (omega arith)
     off false n h = (refl, omega arith)
 
+    more : (l : List Event) {l′ : List Event} → during x (step m e) l ≡ l′ → during x m (e ∷ l) ≡ e ∷ l′
+    more l i = during-on x m e l w ∙ ap (λ (l : List Event). e ∷ l) i
+
     by : (t : Bool) → step m e .waiting x ≡ t → one (isRelease x e) + tally (isRelease x) d ≡ 0 → one (isRestart e) + tally isRestart d ≡ 0
-        → (step m e .waiting x ≡ true → tally (isRelease x) d ≡ 0 → tally isRestart d ≡ 0 → ((run (step m e) d .waiting x ≡ true) × (d ≡ es)) ⊎ (run (step m e) d .active ≡ held x))
-        → ((run (step m e) d .waiting x ≡ true) × ((e ∷ d) ≡ (e ∷ es))) ⊎ (run (step m e) d .active ≡ held x)
-    by true k p q ih = more (ih k (off (isRelease x e) (tally (isRelease x) d) p .1) (off (isRestart e) (tally isRestart d) q .1))
+        → (step m e .waiting x ≡ true → tally (isRelease x) d ≡ 0 → tally isRestart d ≡ 0 → ((run (step m e) es .waiting x ≡ true) × (d ≡ es)) ⊎ Ends x (step m e) es)
+        → ((run (step m e) es .waiting x ≡ true) × (during x m (e ∷ es) ≡ (e ∷ es))) ⊎ Ends x m (e ∷ es)
+    by true k p q ih = on (ih k (off (isRelease x e) (tally (isRelease x) d) p .1) (off (isRestart e) (tally isRestart d) q .1))
       where
-        more : ((run (step m e) d .waiting x ≡ true) × (d ≡ es)) ⊎ (run (step m e) d .active ≡ held x) → ((run (step m e) d .waiting x ≡ true) × ((e ∷ d) ≡ (e ∷ es))) ⊎ (run (step m e) d .active ≡ held x)
-        more (inl c) = inl (c .0, ap (λ (l : List Event). e ∷ l) (c .1))
-        more (inr c) = inr c
+        on : ((run (step m e) es .waiting x ≡ true) × (d ≡ es)) ⊎ Ends x (step m e) es → ((run (step m e) es .waiting x ≡ true) × (during x m (e ∷ es) ≡ (e ∷ es))) ⊎ Ends x m (e ∷ es)
+        on (inl c) = inl (c .0, more es (c .1))
+        on (inr z) = inr (record { n = suc (z .n); waits = z .waits; before = more (take (z .n) es) (z .before); whole = more es (z .whole); active = z .active })
     by false k p q ih =
-        rw (during-off x (step m e) es k)
-        (inr (active (lasts m x e w (off (isRelease x e) (tally (isRelease x) d) p .0) (off (isRestart e) (tally isRestart d) q .0))))
+        inr (record {
+          n = 0;
+          waits = w;
+          before = during-nil x m;
+          whole = more es (during-off x (step m e) es k);
+          active = active (lasts m x e w (off (isRelease x e) (tally (isRelease x) d) p .0) (off (isRestart e) (tally isRestart d) q .0));
+        })
       where
         active : (step m e .waiting x ≡ true) ⊎ (step m e .active ≡ held x) → step m e .active ≡ held x
         active (inl c) = absurd (clash (sym c ∙ k))
         active (inr c) = c
+
+-- a longer list has as many waits begun, or more
+beginnings-take : (y n : ℕ) (m : Model) (es : List Event) → beginnings y m (take n es) ≤ beginnings y m (take (suc n) es)
+unfolding beginnings
+beginnings-take y zero m es = zero-le
+beginnings-take y (suc n) m [] = omega arith
+beginnings-take y (suc n) m (e ∷ es) = omega (arith, beginnings-take y n (step m e) es)
 
 -- the handovers to those above x, each of which begins to wait at most k times
 above-most : (x k : ℕ) (m : Model) (d : List Event) → x < 5 → ((y : ℕ) → x < y → y < 5 → beginnings y m d ≤ k)
@@ -289,32 +310,25 @@ passed-by x k m es l w r z =
     omega (arith, above-most x k m (during x m es) l r, handed-above x m es l w, one-is (run m (during x m es) .waiting x) z)
 
 -- the bound, where only requests that begin a wait are counted
-pub no-starvation : (x k : ℕ) (m : Model) (es : List Event) → x < 5 → m .waiting x ≡ true
-    → tally (isRelease x) (during x m es) ≡ 0
-    → tally isRestart (during x m es) ≡ 0
-    → ((y : ℕ) → x < y → y < 5 → beginnings y m (during x m es) ≤ k)
-    → bound x k ≤ handovers m es
-    → (run m (during x m es) .active ≡ held x) × (handovers m (during x m es) ≤ bound x k)
-no-starvation x k m es l w p q r n = by (ended x m es w p q)
-  where
-    total : sumAbove (4 - x) x (λ y. servings y m (during x m es)) ≤ (4 - x) * (k + 1)
-    total = above-most x k m (during x m es) l r
-
-    by : ((run m (during x m es) .waiting x ≡ true) × (during x m es ≡ es)) ⊎ (run m (during x m es) .active ≡ held x)
-        → (run m (during x m es) .active ≡ held x) × (handovers m (during x m es) ≤ bound x k)
-    by (inr c) = (c, omega (arith, total, handed-above x m es l w))
-    by (inl c) = absurd (over (passed-by x k m es l w r (c .0)) (ap (handovers m) (c .1)))
-      where
-        over : handovers m (during x m es) ≤ (4 - x) * (k + 1) → handovers m (during x m es) ≡ handovers m es → ⊥
-        over h e = omega arith
-
--- as a claim on the list
 pub served-by-waits : (x k : ℕ) (m : Model) → Served beginnings m x k
 unfolding Served
-served-by-waits x k m l w es p q r n =
-    let f = no-starvation x k m es l w p q r n in
-    let e : during x m es ≡ take (length (during x m es)) es = during-take x m es in
-    (length (during x m es), rw (← e) (f .0), rw (← e) (f .1))
+served-by-waits x k m l w es p q r n = by (ended x m es w p q)
+  where
+    over : run m es .waiting x ≡ true → during x m es ≡ es → ⊥
+    over z e =
+        let h : handovers m (during x m es) ≤ (4 - x) * (k + 1) = passed-by x k m es l w r (rw e z) in
+        omega (arith, ap (handovers m) e)
+
+    by : ((run m es .waiting x ≡ true) × (during x m es ≡ es)) ⊎ Ends x m es
+        → (n : ℕ) × (run m (take n es) .waiting x ≡ true) × (run m (take (suc n) es) .active ≡ held x) × (handovers m (take n es) < bound x k)
+    by (inl c) = absurd (over (c .0) (c .1))
+    by (inr z) = (z .n, z .waits, z .active, omega (arith, passed))
+      where
+        few : (y : ℕ) → x < y → y < 5 → beginnings y m (during x m (take (z .n) es)) ≤ k
+        few y i j = rw (z .before) (omega (arith, beginnings-take y (z .n) m es, rw (z .whole) at (r y i j)))
+
+        passed : handovers m (take (z .n) es) ≤ (4 - x) * (k + 1)
+        passed = rw (z .before) at (passed-by x k m (take (z .n) es) l w few (rw (z .before) (z .waits)))
 
 -- and where every write of a request counts, as document 01 has it
 pub served : (x k : ℕ) (m : Model) → Served written m x k

@@ -1,5 +1,5 @@
 -- What the letter's demand 3 claims of the waiting book; quotes are the letter's, and document 01's of what its words mean. Assumes nothing.
-use Prim.Native.Nat.{ℕ, _<_, _≤_}
+use Prim.Native.Nat.{ℕ, suc, _<_, _≤_}
 use mathlib.Core.Path.{_≡_}
 use mathlib.Core.Bool.{true, false}
 use mathlib.Core.List.{List}
@@ -10,7 +10,8 @@ use Rattle.arbiter_model.specs.Waits.{run, handsOver, handovers, isReque
 
 -- "If x begins to wait and, as long as it waits, x doesn't withdraw, no reset or power-on comes, and each higher locality writes
 -- its request at most k times, then x is active no later than handover number (4 - x)(k + 1) + 1": "in a list with n handovers
--- after that request, x has become active at the nth or before it." Here from any m in which x waits; `often` counts the requests.
+-- after that request, x has become active at the nth or before it." Here from any m in which x waits; `often` counts the requests. There is an event
+-- that makes x active: up to it x waits, and fewer handovers than that come before it.
 unfoldable pub Served : (ℕ → Model → List Event → ℕ) → Model → ℕ → ℕ → Type 0
 Served often m x k =
     x < 5
@@ -20,7 +21,7 @@ Served often m x k =
     → tally isRestart (during x m es) ≡ 0
     → ((y : ℕ) → x < y → y < 5 → often y m (during x m es) ≤ k)
     → bound x k ≤ handovers m es
-    → (n : ℕ) × (run m (take n es) .active ≡ held x) × (handovers m (take n es) ≤ bound x k)
+    → (n : ℕ) × (run m (take n es) .waiting x ≡ true) × (run m (take (suc n) es) .active ≡ held x) × (handovers m (take n es) < bound x k)
 
 -- m and m′ are one to every reader of the model
 pub record Same (m m′ : Model) : Type 0 where

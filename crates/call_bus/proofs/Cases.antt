@@ -2,13 +2,14 @@
 use mathlib.Core.Path.{_≡_, refl, subst, sym}
 use mathlib.Core.Bool.{Bool, true, false, cond}
 use mathlib.Core.List.{List}
-use Prim.Native.Nat.{ℕ, _<_, _≤_}
+use Prim.Native.Nat.{ℕ, _+_, _-_, _<_, _≤_}
 use native.Mathlib.Omega.{arith}
 use lib.ListN.{length}
 use lib.Dec.{eqb, leb}
-use borrow.Author.Tests.{eqb-true, eqb-false, leb-false}
+use borrow.Author.Tests.{eqb-true, eqb-false, leb-true, leb-false}
 use Rattle.refusal.specs.Refusal.{accepted, hashLength}
-use Rattle.reg_layout.specs.Offsets.{inFour, placeOf, lastOffset, access, hashStart, hashEnd, hashData}
+use Rattle.reg_layout.specs.Offsets.{within, inFour, placeOf, lastOffset, access, intEnable, intStatus, sts, dataFifo, hashStart, hashEnd, hashData}
+use Rattle.reg_layout.proofs.Within.{within-then}
 use Rattle.arbiter.specs.State.{holds}
 use Rattle.arbiter.specs.Rules.{startCounts, writeAccess, handover}
 use Rattle.arbiter.specs.declared.Change.{Change}
@@ -24,16 +25,17 @@ use Rattle.record.specs.declared.Phase.{Phase}
 use Rattle.record.specs.declared.Phase.the-variants.{Idle}
 use Rattle.reg_map.specs.Map.{registerAt, registerFor}
 use Rattle.reg_map.specs.declared.Register.{Register}
-use Rattle.reg_map.specs.declared.Register.the-variants.{Access}
-use Rattle.reg_map.proofs.MapLaws.{access-place}
+use Rattle.reg_map.specs.declared.Register.the-variants.{Access, Sts}
+use Rattle.reg_map.proofs.MapLaws.{Inert, register-elim, access-apart, fifo-apart}
 use Rattle.reg_sts_read.specs.Size.{declaredSize}
-use Rattle.reg_sts_write.specs.Completion.{badSize}
+use Rattle.reg_interrupts.specs.Interrupts.{writeEnable, writeStatus}
+use Rattle.reg_sts_write.specs.Completion.{ignored, badSize}
+use Rattle.reg_sts_write.specs.Sts.{stsCommand, commandedBy, writeSts, writeDataFifo}
 use Rattle.reg_sts_write.specs.declared.Commanded.{Commanded}
-use Rattle.reg_sts_write.proofs.Cases.{CommandCase}
+use Rattle.reg_sts_write.proofs.Cases.{CommandCase, nothing as idle, order-case, fifo-case}
 use Rattle.reg_fifo.specs.Fifo.{clearFifo, updateWriteFifo, updateReadFifo, fifoByte, afterRead}
 use Rattle.reg_fifo.specs.declared.FifoAction.the-variants.{Keep, Clear}
-use Rattle.bus_read.specs.declared.RegisterRead.{RegisterRead}
-use Rattle.bus_read.proofs.Cases as reading
+use Rattle.bus_read.specs.Reading.{readDataFifo, registerRead}
 use Rattle.bus_resolve.specs.Resolve.{pageAt, resolve}
 use Rattle.bus_resolve.specs.declared.WriteKind.{WriteKind}
 use Rattle.bus_resolve.specs.declared.WriteKind.the-variants.{HashData, Ordinary}
@@ -41,8 +43,6 @@ use Rattle.bus_resolve.proofs.Cases as resolving
 use Rattle.bus_resolve.proofs.Cases.{Unhashed, hashPage, Resolved, resolved}
 use Rattle.bus_write.specs.Effect.{effect, changedControl, applyChange, commandedControl, applyCommand}
 use Rattle.bus_write.specs.Writing.{startEffect, registerWrite, writeEffect}
-use Rattle.bus_write.specs.declared.Effect.{Effect}
-use Rattle.bus_write.proofs.Cases as writing
 use Rattle.launch.specs.Launch.{begunLaunch, joined, launchAfter, measured, pcrsAfter}
 use Rattle.call_admission.specs.Refusals.{busRefusalOf}
 use Rattle.call_admission.proofs.RefusalLaws.{bus-then}
@@ -60,23 +60,35 @@ gives n b d = record { refusal = n; byte = b; device = d }
 
 pub data ReadCase (d : Device) (w r : List ℕ) (o : ℕ) : ReadOutcome → Type 0 where
   refused : {n : ℕ} → n ≡ busRefusalOf d w r o → (n ≡ accepted → ⊥) → ReadCase d w r o (gives n 0xff d)
-  stays : busRefusalOf d w r o ≡ accepted → (b : ℕ) → ReadCase d w r o (gives accepted b d)
-  -- the active locality reads the FIFO
-  moves : busRefusalOf d w r o ≡ accepted → holds (owner d) (pageAt o) ≡ true
+  -- of another register than the FIFO
+  stays : busRefusalOf d w r o ≡ accepted → inFour dataFifo (placeOf o) ≡ false → (b : ℕ) → ReadCase d w r o (gives accepted b d)
+  -- of the FIFO, by the active locality and by another
+  moves : busRefusalOf d w r o ≡ accepted → inFour dataFifo (placeOf o) ≡ true → holds (owner d) (pageAt o) ≡ true
       → ReadCase d w r o (gives accepted (fifoByte (d .phase) r) (withPhase d (afterRead (d .phase))))
+  misses : busRefusalOf d w r o ≡ accepted → inFour dataFifo (placeOf o) ≡ true → holds (owner d) (pageAt o) ≡ false → ReadCase d w r o (gives accepted 0xff d)
 
-pub read-case : (d : Device) (w r : List ℕ) (o : ℕ) → ReadCase d w r o (read d w r o)
-unfolding read readCycle acceptedRead
-read-case d w r o = by (eqb (busRefusalOf d w r o) accepted) refl
-  where
-    on : busRefusalOf d w r o ≡ accepted → (s : RegisterRead) → reading.RegisterCase (registerFor o) (holds (owner d) (pageAt o)) (d .phase) r s → ReadCase d w r o (readOutcome (seen s) d)
-    on e s (reading.stays b) = stays e b
-    on e s (reading.moves g h) = moves e h
+module _ (d : Device) (w r : List ℕ) (o : ℕ) where
+  register-read : busRefusalOf d w r o ≡ accepted → ReadCase d w r o (readOutcome (acceptedRead o (d .control) (d .phase) (d .identity) w r) d)
+  unfolding acceptedRead registerRead
+  register-read e =
+      register-elim
+      (λ g. ReadCase d w r o (readOutcome (seen (registerRead g (pageAt o) (holds (owner d) (pageAt o)) (d .control) (d .phase) (d .identity) (declaredSize w) (length w) r)) d))
+      (placeOf o) (λ i. stays e (access-apart (placeOf o) i) _) (λ i. stays e (fifo-apart intEnable (intEnable + 3) (placeOf o) i (omega arith)) _) (λ i. stays e (i .noFifo) _)
+      (λ i. stays e (fifo-apart intStatus (intStatus + 3) (placeOf o) i (omega arith)) _) (λ j i. stays e (i .noFifo) _) (λ i. stays e (fifo-apart sts (sts + 2) (placeOf o) i (omega arith)) _)
+      (λ i. fifo i (holds (owner d) (pageAt o)) refl) (λ j i. stays e (i .noFifo) _) (λ i. stays e (i .noFifo) _)
+    where
+      fifo : inFour dataFifo (placeOf o) ≡ true → (t : Bool) → holds (owner d) (pageAt o) ≡ t → ReadCase d w r o (readOutcome (seen (readDataFifo t (d .phase) r)) d)
+      fifo i true h = moves e i h
+      fifo i false h = misses e i h
 
-    by : (t : Bool) → eqb (busRefusalOf d w r o) accepted ≡ t
-        → ReadCase d w r o (readOutcome (cond t (acceptedRead o (d .control) (d .phase) (d .identity) w r) (refusedRead (busRefusalOf d w r o) (d .phase))) d)
-    by true e = on (eqb-true (busRefusalOf d w r o) accepted e) _ (reading.register-case (registerFor o) (pageAt o) _ (d .control) (d .phase) (d .identity) _ _ r)
-    by false e = refused refl (eqb-false (busRefusalOf d w r o) accepted e)
+  pub read-case : ReadCase d w r o (read d w r o)
+  unfolding read readCycle
+  read-case = by (eqb (busRefusalOf d w r o) accepted) refl
+    where
+      by : (t : Bool) → eqb (busRefusalOf d w r o) accepted ≡ t
+          → ReadCase d w r o (readOutcome (cond t (acceptedRead o (d .control) (d .phase) (d .identity) w r) (refusedRead (busRefusalOf d w r o) (d .phase))) d)
+      by true e = register-read (eqb-true (busRefusalOf d w r o) accepted e)
+      by false e = refused refl (eqb-false (busRefusalOf d w r o) accepted e)
 
 -- ---- a write
 
@@ -93,12 +105,25 @@ joinedDevice d v = withParts d (d .control) (d .phase) (joined (d .launch) v) (d
 abbrev pub withControl : Device → Control → Phase → Device
 withControl d k p = withParts d k p (d .launch) (d .pcrs)
 
+-- what a write to an interrupt register makes of them, v being the byte
+pub data Sets (o v : ℕ) (s : Interrupts) : Interrupts → Type 0 where
+  enables : inFour intEnable (placeOf o) ≡ true → Sets o v s (writeEnable s (placeOf o - intEnable) v)
+  clears : inFour intStatus (placeOf o) ≡ true → Sets o v s (writeStatus s (placeOf o - intStatus) v)
+
+-- what a write to STS or the FIFO orders: a command bit, nothing, or a byte to be stored
+pub data Orders (o v run size c : ℕ) (p : Phase) : Commanded → Type 0 where
+  bit : placeOf o ≡ sts → Orders o v run size c p (commandedBy (stsCommand v) p run size c)
+  nothing : (placeOf o ≡ sts → ⊥) → within sts (sts + 2) (placeOf o) ≡ true → Orders o v run size c p (ignored p run)
+  byte : inFour dataFifo (placeOf o) ≡ true → Orders o v run size c p (writeDataFifo p run size c)
+
 -- why an accepted write is ignored
 pub data Ignores (d : Device) (o : ℕ) : Type 0 where
   lateStart : inFour hashStart o ≡ true → startCounts (owner d) ≡ false → Ignores d o
   lateEnd : inFour hashStart o ≡ false → inFour hashEnd o ≡ true → d .launch .sequence ≡ false → Ignores d o
   pageIgnored : Unhashed o → hashPage o (d .launch .sequence) ≡ true → inFour hashData o ≡ false → Ignores d o
-  registerIgnored : Unhashed o → hashPage o (d .launch .sequence) ≡ false → (placeOf o ≡ access → ⊥) → Ignores d o
+  -- another's register, or one that takes no write
+  missed : Unhashed o → hashPage o (d .launch .sequence) ≡ false → (placeOf o ≡ access → ⊥) → holds (owner d) (pageAt o) ≡ false → Ignores d o
+  registerIgnored : Unhashed o → hashPage o (d .launch .sequence) ≡ false → (placeOf o ≡ access → ⊥) → Inert (placeOf o) → Ignores d o
 
 abbrev pub commandedDevice : Device → Commanded → Device
 commandedDevice d c = withControl d (commandedControl (d .control) c) (c .phase)
@@ -120,14 +145,18 @@ module _ (d : Device) (w r : List ℕ) (o v : ℕ) where
     keeps : o ≤ lastOffset → Unhashed o → hashPage o (d .launch .sequence) ≡ false → placeOf o ≡ access → accessed .abort ≡ false
         → Writes (withControl d (changedControl (d .control) accessed) (d .phase)) w r
     -- of the active locality alone: an interrupt register, a command bit of STS or a byte for the FIFO
-    sets : Unhashed o → hashPage o (d .launch .sequence) ≡ false → (placeOf o ≡ access → ⊥) → holds (owner d) (pageAt o) ≡ true → (s : Interrupts)
+    sets : Unhashed o → hashPage o (d .launch .sequence) ≡ false → (placeOf o ≡ access → ⊥) → holds (owner d) (pageAt o) ≡ true → (s : Interrupts) → Sets o v (d .control .interrupts) s
         → Writes (withControl d (withInterrupts (d .control) s) (d .phase)) w r
     commands : Unhashed o → hashPage o (d .launch .sequence) ≡ false → (placeOf o ≡ access → ⊥) → holds (owner d) (pageAt o) ≡ true → (c : Commanded) → CommandCase (d .control .run) (declaredSize w) (length w) (d .phase) c
+        → Orders o v (d .control .run) (declaredSize w) (length w) (d .phase) c
         → Writes (commandedDevice d c) (updateWriteFifo (c .fifos) v w) (updateReadFifo (c .fifos) badSize r)
 
   pub data WriteCase : Result → Type 0 where
-    refused : {n : ℕ} → (n ≡ accepted → ⊥) → WriteCase (result n d w r)
-    accepts : {d′ : Device} {w′ r′ : List ℕ} → Writes d′ w′ r′ → WriteCase (result accepted d′ w′ r′)
+    refused : {n : ℕ} → n ≡ busRefusalOf d w r o → (n ≡ accepted → ⊥) → WriteCase (result n d w r)
+    -- hash data beyond the limit
+    overlong : busRefusalOf d w r o ≡ accepted → hashPage o (d .launch .sequence) ≡ true → inFour hashData o ≡ true → hashLimit ≤ d .launch .stream .count
+        → WriteCase (result hashLength d w r)
+    accepts : {d′ : Device} {w′ r′ : List ℕ} → busRefusalOf d w r o ≡ accepted → Writes d′ w′ r′ → WriteCase (result accepted d′ w′ r′)
 
   abbrev left : WriteKind → Result
   left kind = leftBy (resolvedWrite kind o (d .control) (d .phase) (hashProgress (d .launch)) w v) d w r v
@@ -136,44 +165,55 @@ module _ (d : Device) (w r : List ℕ) (o v : ℕ) where
   unfolding registerAt
   at-access q = rw q refl
 
-  -- ACCESS of a page whose writes are not ignored
-  access-case : o ≤ lastOffset → Unhashed o → hashPage o (d .launch .sequence) ≡ false → placeOf o ≡ access → WriteCase (left (Ordinary Access))
-  unfolding acceptedWrite writeEffect registerWrite applyChange launchAfter pcrsAfter
-  access-case l u h e = by (accessed .abort) refl
-    where
-      by : (t : Bool) → accessed .abort ≡ t
-          → WriteCase (leftBy (done (Ordinary Access) (cond t (effect (changedControl (d .control) accessed) Idle Clear) (effect (changedControl (d .control) accessed) (d .phase) Keep))) d w r v)
-      by true i = accepts (aborts l u h e i)
-      by false i = accepts (keeps l u h e i)
+  module _ (z : busRefusalOf d w r o ≡ accepted) where
+    l : o ≤ lastOffset
+    l = bus-then _ _ o z .1
 
-  -- another register of the active locality's page
-  reach-case : Unhashed o → hashPage o (d .launch .sequence) ≡ false → (placeOf o ≡ access → ⊥) → holds (owner d) (pageAt o) ≡ true → WriteCase (left (Ordinary (registerFor o)))
-  unfolding acceptedWrite writeEffect applyCommand launchAfter pcrsAfter
-  reach-case u q n h = by _ (writing.register-case (registerFor o) (pageAt o) (d .control) (d .phase) (declaredSize w) (length w) v)
-    where
-      by : (e : Effect) → writing.RegisterCase (registerFor o) (pageAt o) (d .control) (d .phase) (declaredSize w) (length w) v e
-          → WriteCase (leftBy (done (Ordinary (registerFor o)) e) d w r v)
-      by e (writing.arbitrates g) = absurd (n (access-place (placeOf o) g))
-      by e (writing.interrupts s) = accepts (sets u q n h s)
-      by e (writing.commands c k) = accepts (commands u q n h c k)
-      by e writing.ignores = accepts (ignores (registerIgnored u q n))
+    -- ACCESS of a page whose writes are not ignored
+    access-case : Unhashed o → hashPage o (d .launch .sequence) ≡ false → placeOf o ≡ access → WriteCase (left (Ordinary Access))
+    unfolding acceptedWrite writeEffect registerWrite applyChange launchAfter pcrsAfter
+    access-case u h e = by (accessed .abort) refl
+      where
+        by : (t : Bool) → accessed .abort ≡ t
+            → WriteCase (leftBy (done (Ordinary Access) (cond t (effect (changedControl (d .control) accessed) Idle Clear) (effect (changedControl (d .control) accessed) (d .phase) Keep))) d w r v)
+        by true i = accepts z (aborts l u h e i)
+        by false i = accepts z (keeps l u h e i)
 
-  resolved-case : o ≤ lastOffset → (kind : WriteKind) → Resolved o (d .launch .sequence) (owner d) kind → WriteCase (left kind)
-  unfolding acceptedWrite writeEffect applyChange launchAfter pcrsAfter
-  resolved-case l kind (resolving.starts i j) = accepts (starts i j)
-  resolved-case l kind (resolving.lateStart i j) = accepts (ignores (lateStart i j))
-  resolved-case l kind (resolving.ends i j k) = rw (handover-aborts (d .control .arbiter)) (accepts (ends i j k))
-  resolved-case l kind (resolving.lateEnd i j k) = accepts (ignores (lateEnd i j k))
-  resolved-case l kind (resolving.joins u h i) = by (leb hashLimit (d .launch .stream .count)) refl
-    where
-      by : (t : Bool) → leb hashLimit (d .launch .stream .count) ≡ t
-          → WriteCase (leftBy (cond t (refusedWrite hashLength (d .control) (d .phase)) (acceptedWrite HashData o (d .control) (d .phase) w v)) d w r v)
-      by true e = refused (λ (q : hashLength ≡ accepted). omega arith)
-      by false e = accepts (joins u h i (leb-false hashLimit (d .launch .stream .count) e))
-  resolved-case l kind (resolving.pageIgnored u h i) = accepts (ignores (pageIgnored u h i))
-  resolved-case l kind (resolving.accesses u h e) = subst (λ (g : Register). WriteCase (left (Ordinary g))) (sym (at-access e)) (access-case l u h e)
-  resolved-case l kind (resolving.reaches u h n a) = reach-case u h n a
-  resolved-case l kind (resolving.misses u h n a) = accepts (ignores (registerIgnored u h n))
+    -- another register of the active locality's page
+    reach-case : Unhashed o → hashPage o (d .launch .sequence) ≡ false → (placeOf o ≡ access → ⊥) → holds (owner d) (pageAt o) ≡ true → WriteCase (left (Ordinary (registerFor o)))
+    unfolding acceptedWrite writeEffect registerWrite applyCommand writeSts launchAfter pcrsAfter
+    reach-case u q n h =
+        register-elim (λ g. WriteCase (left (Ordinary g))) (placeOf o) (λ e. absurd (n e)) (λ e. accepts z (sets u q n h _ (enables e))) (λ i. still i)
+        (λ e. accepts z (sets u q n h _ (clears e))) (λ j i. still i) (λ e. status e (eqb (placeOf o - sts) 0) refl)
+        (λ e. accepts z (commands u q n h _ (fifo-case (d .control .run) (declaredSize w) (length w) (d .phase)) (byte e))) (λ j i. still i) (λ i. still i)
+      where
+        still : Inert (placeOf o) → WriteCase (result accepted d w r)
+        still i = accepts z (ignores (registerIgnored u q n i))
+
+        status : within sts (sts + 2) (placeOf o) ≡ true → (t : Bool) → eqb (placeOf o - sts) 0 ≡ t
+            → WriteCase (leftBy (done (Ordinary (Sts (placeOf o - sts))) (applyCommand (d .control) (cond t (commandedBy (stsCommand v) (d .phase) (d .control .run) (declaredSize w) (length w)) (ignored (d .phase) (d .control .run))))) d w r v)
+        status e true i =
+            let k : _ = within-then sts (sts + 2) (placeOf o) e in
+            accepts z (commands u q n h _ (order-case (d .control .run) (declaredSize w) (length w) (stsCommand v) (d .phase)) (bit (omega (arith, eqb-true (placeOf o - sts) 0 i))))
+        status e false i =
+            accepts z (commands u q n h _ idle (nothing (λ j. eqb-false (placeOf o - sts) 0 i (omega arith)) e))
+
+    resolved-case : (kind : WriteKind) → Resolved o (d .launch .sequence) (owner d) kind → WriteCase (left kind)
+    unfolding acceptedWrite writeEffect applyChange launchAfter pcrsAfter
+    resolved-case kind (resolving.starts i j) = accepts z (starts i j)
+    resolved-case kind (resolving.lateStart i j) = accepts z (ignores (lateStart i j))
+    resolved-case kind (resolving.ends i j k) = rw (handover-aborts (d .control .arbiter)) (accepts z (ends i j k))
+    resolved-case kind (resolving.lateEnd i j k) = accepts z (ignores (lateEnd i j k))
+    resolved-case kind (resolving.joins u h i) = by (leb hashLimit (d .launch .stream .count)) refl
+      where
+        by : (t : Bool) → leb hashLimit (d .launch .stream .count) ≡ t
+            → WriteCase (leftBy (cond t (refusedWrite hashLength (d .control) (d .phase)) (acceptedWrite HashData o (d .control) (d .phase) w v)) d w r v)
+        by true e = overlong z h i (leb-true hashLimit (d .launch .stream .count) e)
+        by false e = accepts z (joins u h i (leb-false hashLimit (d .launch .stream .count) e))
+    resolved-case kind (resolving.pageIgnored u h i) = accepts z (ignores (pageIgnored u h i))
+    resolved-case kind (resolving.accesses u h e) = subst (λ (g : Register). WriteCase (left (Ordinary g))) (sym (at-access e)) (access-case u h e)
+    resolved-case kind (resolving.reaches u h n a) = reach-case u h n a
+    resolved-case kind (resolving.misses u h n a) = accepts z (ignores (missed u h n a))
 
   pub write-case : WriteCase (write d w r o v)
   unfolding write writeCycle launchAfter pcrsAfter
@@ -181,5 +221,5 @@ module _ (d : Device) (w r : List ℕ) (o v : ℕ) where
     where
       by : (t : Bool) → eqb (busRefusalOf d w r o) accepted ≡ t
           → WriteCase (leftBy (cond t (resolvedWrite (resolve o (d .launch .sequence) (owner d)) o (d .control) (d .phase) (hashProgress (d .launch)) w v) (refusedWrite (busRefusalOf d w r o) (d .control) (d .phase))) d w r v)
-      by true e = resolved-case (bus-then _ _ o (eqb-true (busRefusalOf d w r o) accepted e) .1) (resolve o (d .launch .sequence) (owner d)) (resolved o (d .launch .sequence) (owner d))
-      by false e = refused (eqb-false (busRefusalOf d w r o) accepted e)
+      by true e = resolved-case (eqb-true (busRefusalOf d w r o) accepted e) (resolve o (d .launch .sequence) (owner d)) (resolved o (d .launch .sequence) (owner d))
+      by false e = refused refl (eqb-false (busRefusalOf d w r o) accepted e)

@@ -1,14 +1,15 @@
 -- The bridge between the claims and the functions: a step on the functions' contracts is just what the calls' definitions say, and there is
 -- one for each call and whatever it is handed; so a claim over lists of calls holds of the functions. Assumes nothing.
-use mathlib.Core.Path.{_≡_, refl, ap, _∙_, subst}
+use mathlib.Core.Path.{_≡_, refl, sym, ap, _∙_, subst}
 use mathlib.Core.Bool.{Bool, true, false, cond}
 use mathlib.Core.List.{List, [], _∷_}
-use Prim.Native.Nat.{ℕ, _+_, _-_}
+use Prim.Native.Nat.{ℕ, zero, suc, _+_, _-_}
 use lib.ListN.{take, drop}
 use denote.Ref.{RefT, now, ptr}
 use contract.Lifetimes.{Lfts}
 use Rattle.pcr.specs.Permission as table
 use Rattle.pcr.specs.Permission.{permission}
+use Rattle.record.specs.declared.Device.{Device}
 use Rattle.call_outcome.specs.declared.Outcome.{Outcome}
 use Rattle.call_outcome.specs.Result.{Result, Leaves}
 use Rattle.call_power.specs.Power as power
@@ -17,8 +18,8 @@ use Rattle.call_respond.specs.Respond as engine
 use Rattle.call_query.specs.Query as query
 use Rattle.call_query.specs.Query.{ofTwo}
 use Rattle.call_query.specs.declared.Span.{Span}
-use Rattle.claims.specs.Calls.{Call, powerOn, reset, read, write, respond, pcrValue, interruptLine, mayReset, mayExtend, window, State, state, nothing, Answer, Called, changes, gives, called, refusalOf, left, after, heard, OverLists}
-use Rattle.claims.proofs.Steps.{answer, Step, powersOn, resets, reads, writes, responds, asksPcr, asksLine, asksReset, asksExtend, looks, Runs, none, more, OnContracts}
+use Rattle.claims.specs.Calls.{Call, powerOn, reset, read, write, respond, pcrValue, interruptLine, mayReset, mayExtend, window, State, state, nothing, Answer, Called, changes, gives, called, refusalOf, left, after, heard, OverLists, Lent, lentAfter, lentHeard, OverLent}
+use Rattle.claims.proofs.Steps.{answer, Step, powersOn, resets, reads, writes, responds, asksPcr, asksLine, asksReset, asksExtend, looks, Runs, none, more, OnContracts, LentRuns, noneLent, moreLent, OnLentContracts}
 
 -- ---- a step is what the definitions say
 
@@ -113,15 +114,44 @@ unfolding heard after
 called-runs s [] = none
 called-runs s (c ∷ cs) = more (called-step c s) (called-runs (left c s) cs)
 
+-- the same of calls that are lent FIFOs of their own, for each front part of the list
+pub lent-called : {d d′ : Device} {h : List (Call × Answer)} → LentRuns d h d′ → (n : ℕ)
+    → (ks : List Lent) × (lentHeard d (take n ks) ≡ take n h) × LentRuns d (take n h) (lentAfter d (take n ks))
+unfolding lentHeard lentAfter
+lent-called noneLent zero = ([], refl, noneLent)
+lent-called noneLent (suc n) = ([], refl, noneLent)
+lent-called (moreLent p ps) zero = ([], refl, noneLent)
+lent-called {d} (moreLent {w = w} {r = r} {s₁ = s₁} {c = c} {a = a} {cs = h} p ps) (suc n) =
+    let k : Lent = record { call = c; writeFifo = w; readFifo = r } in
+    let z : _ = lent-called ps n in
+    let e : left c (state d w r) ≡ s₁ = ap (λ (k : Called). k .left) (step-called p) in
+    let f : called c (state d w r) .answer ≡ a = ap (λ (k : Called). k .answer) (step-called p) in (
+      k ∷ z .0,
+      ap (λ (b : Answer). (c, b) ∷ lentHeard (left c (state d w r) .device) (take n (z .0))) f
+          ∙ ap (λ (s : State). (c, a) ∷ lentHeard (s .device) (take n (z .0))) e
+          ∙ ap (λ (l : List (Call × Answer)). (c, a) ∷ l) (z .1),
+      moreLent p (subst (λ (s : State). LentRuns (s₁ .device) (take n h) (lentAfter (s .device) (take n (z .0)))) (sym e) (z .2)),
+    )
+
+pub on-lent-contracts : (P : List (Call × Answer) → Device → Type 0) → OverLent P → OnLentContracts P
+unfolding lentHeard lentAfter
+on-lent-contracts P f s₀ s₁ d e i a h p ps n =
+    let z : _ = lent-called ps n in
+    let first : Lent = record { call = powerOn e i; writeFifo = s₀ .writeFifo; readFifo = s₀ .readFifo } in
+    let c : called (powerOn e i) s₀ ≡ record { answer = a; left = s₁ } = step-called p in
+    let k : P ((powerOn e i, a) ∷ lentHeard (s₁ .device) (take n (z .0))) (lentAfter (s₁ .device) (take n (z .0)))
+    = subst (λ (k : Called). P ((powerOn e i, k .answer) ∷ lentHeard (k .left .device) (take n (z .0))) (lentAfter (k .left .device) (take n (z .0)))) c (f (s₀ .device) first refl (z .0) n) in
+    (lentAfter (s₁ .device) (take n (z .0)), z .2, rw (z .1) at k)
+
 -- a claim over lists of calls is one on the functions' contracts, and the other way round
-pub on-contracts : (P : List (Call × Answer) → State → Type 0) → OverLists P → OnContracts P
+pub on-contracts : (P : State → List (Call × Answer) → State → Type 0) → OverLists P → OnContracts P
 unfolding heard after
 on-contracts P f s₀ s₁ s e i a h p ps =
     let r : _ = runs-called ps in
     let c : called (powerOn e i) s₀ ≡ record { answer = a; left = s₁ } = step-called p in
-    let k : P ((powerOn e i, a) ∷ heard s₁ (r .0)) (after s₁ (r .0)) = subst (λ (k : Called). P ((powerOn e i, k .answer) ∷ heard (k .left) (r .0)) (after (k .left) (r .0))) c (f s₀ e i (r .0)) in
+    let k : P s₀ ((powerOn e i, a) ∷ heard s₁ (r .0)) (after s₁ (r .0)) = subst (λ (k : Called). P s₀ ((powerOn e i, k .answer) ∷ heard (k .left) (r .0)) (after (k .left) (r .0))) c (f s₀ e i (r .0)) in
     rw (r .1, r .2) at k
 
-pub over-lists : (P : List (Call × Answer) → State → Type 0) → OnContracts P → OverLists P
+pub over-lists : (P : State → List (Call × Answer) → State → Type 0) → OnContracts P → OverLists P
 unfolding heard after
 over-lists P f s e i cs = f s (left (powerOn e i) s) (after (left (powerOn e i) s) cs) e i _ (heard (left (powerOn e i) s) cs) (called-step (powerOn e i) s) (called-runs (left (powerOn e i) s) cs)

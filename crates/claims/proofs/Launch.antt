@@ -36,19 +36,19 @@ use Rattle.call_outcome.specs.Result.{Result}
 use Rattle.call_power.proofs.Cases as power
 use Rattle.call_power.proofs.Cases.{PowerCase, power-case}
 use Rattle.call_bus.proofs.Cases as bus
-use Rattle.call_bus.proofs.Cases.{owner, Writes, starts, ends, joins, ignores, aborts, keeps, sets, commands, Ignores, lateStart, lateEnd, pageIgnored, registerIgnored, WriteCase, write-case}
-use Rattle.claims.specs.Calls.{Call, powerOn, write, State, refusalOf, left, after, heard}
+use Rattle.call_bus.proofs.Cases.{owner, Writes, starts, ends, joins, ignores, aborts, keeps, sets, commands, Ignores, lateStart, lateEnd, pageIgnored, missed, registerIgnored, WriteCase, write-case}
+use Rattle.claims.specs.Calls.{Call, powerOn, write, isPowerOn, State, refusalOf, left, after, heard, OverLists}
 use Rattle.claims.specs.Events.{entryOf, eventOf, happens, events, modelAfter}
 use Rattle.claims.specs.Demand3.{Keeps}
-use Rattle.claims.specs.Launch.{launchPcr, isLaunchPcr, startCounts, streamWritten, streamStep, streamFrom, Stands, changesPcrs, Launched, LaunchClaim}
-use Rattle.claims.proofs.CallCases.{CallCase, same, powers, resets, reads, writes, responds, call-case}
+use Rattle.claims.specs.Launch.{launchPcr, isLaunchPcr, startCounts, streamWritten, streamStep, streamFrom, streamAfter, Stands, changesPcrs, establishes, Launched}
+use Rattle.claims.proofs.CallCases.{CallCase, same, powers, resets, looks, reads, writes, responds, call-case}
 use Rattle.claims.proofs.Book.{start-event, end-event, data-page, power-keeps, one-call, sound-call}
 
-clash : {b : Bool} → b ≡ true → b ≡ false → ⊥
+pub clash : {b : Bool} → b ≡ true → b ≡ false → ⊥
 clash p q = true≢false (sym p ∙ q)
 
 -- hash start and hash end are apart
-apart : (o : ℕ) → inFour hashStart o ≡ true → inFour hashEnd o ≡ true → ⊥
+pub apart : (o : ℕ) → inFour hashStart o ≡ true → inFour hashEnd o ≡ true → ⊥
 apart o i j =
     let k : _ = within-then hashStart (hashStart + 3) o i in
     let l : _ = within-then hashEnd (hashEnd + 3) o j in
@@ -57,7 +57,7 @@ apart o i j =
 -- ---- what an accepted write is to the stream
 
 -- a start counts in the model just when it does in the record
-counts-same : {m : Model} {s : Arbiter} {o : Bool} → Agrees m s o → startCounts (m .active) ≡ rule.startCounts (s .active)
+pub counts-same : {m : Model} {s : Arbiter} {o : Bool} → Agrees m s o → startCounts (m .active) ≡ rule.startCounts (s .active)
 counts-same {m} {s} a = ap startCounts (a .active) ∙ by (s .active)
   where
     by : (w : Owner) → startCounts (holder w) ≡ rule.startCounts w
@@ -65,7 +65,7 @@ counts-same {m} {s} a = ap startCounts (a .active) ∙ by (s .active)
     by (Held y) = refl
 
 -- data outside an open sequence does not join
-closed-data : (o : ℕ) (sequence : Bool) → hashPage o sequence ≡ false → inFour hashData o ≡ true → sequence ≡ false
+pub closed-data : (o : ℕ) (sequence : Bool) → hashPage o sequence ≡ false → inFour hashData o ≡ true → sequence ≡ false
 closed-data o true h i = rw (eq-eqb (pageOf o) 4 (data-page o i .0)) at h
 closed-data o false h i = refl
 
@@ -107,7 +107,8 @@ module _ (m : Model) (bs : List ℕ) (d : Device) (o v : ℕ) (a : Agrees m (d .
   ignored (lateStart i j) = rw (stream-start m bs o v i (counts-same a ∙ j)) t
   ignored (lateEnd i j k) = rw (stream-end m bs o v i j (a .sequenceOpen ∙ k)) t
   ignored (pageIgnored u h i) = stays u (λ z. absurd (true≢false (sym z ∙ i)))
-  ignored (registerIgnored u h n) = stays u (closed-data o (d .launch .sequence) h)
+  ignored (missed u h n i) = stays u (closed-data o (d .launch .sequence) h)
+  ignored (registerIgnored u h n i) = stays u (closed-data o (d .launch .sequence) h)
 
   open-page : (sequence : Bool) → hashPage o sequence ≡ true → sequence ≡ true
   open-page true h = refl
@@ -126,30 +127,31 @@ module _ (m : Model) (bs : List ℕ) (d : Device) (o v : ℕ) (a : Agrees m (d .
   write-streams (ignores i) = ignored i
   write-streams (aborts l u h e i) = stays u (λ z. absurd (data-page o z .1 e))
   write-streams (keeps l u h e i) = stays u (λ z. absurd (data-page o z .1 e))
-  write-streams (sets u q n h s) = stays u (closed-data o (d .launch .sequence) q)
-  write-streams (commands u q n h c k) = stays u (closed-data o (d .launch .sequence) q)
+  write-streams (sets u q n h s t) = stays u (closed-data o (d .launch .sequence) q)
+  write-streams (commands u q n h c k t) = stays u (closed-data o (d .launch .sequence) q)
 
-power-streams : {established : Bool} {identity w r : List ℕ} {t : Result} (bs : List ℕ) → PowerCase established identity w r t → Stands (t .device .launch) bs
+pub power-streams : {established : Bool} {identity w r : List ℕ} {t : Result} (bs : List ℕ) → PowerCase established identity w r t → Stands (t .device .launch) bs
 power-streams bs (power.refused l) = stands-fresh _ _ _ bs
 power-streams bs (power.powered l) = stands-fresh _ _ _ bs
 
-call-streams : {c : Call} {n : ℕ} {s s′ : State} (m : Model) (bs : List ℕ) → CallCase s c n s′ → Keeps m s → Stands (s .device .launch) bs
+pub call-streams : {c : Call} {n : ℕ} {s s′ : State} (m : Model) (bs : List ℕ) → CallCase s c n s′ → Keeps m (s .device) → Stands (s .device .launch) bs
     → Stands (s′ .device .launch) (streamStep m bs (entryOf c n))
 call-streams m bs (same p e) a t = rw e t
 call-streams m bs (powers k) a t = power-streams [] k
 call-streams m bs (resets e) a t = stands-fresh _ _ _ []
-call-streams m bs (reads e) a t = t
+call-streams m bs (looks e) a t = t
+call-streams m bs (reads i e) a t = t
 call-streams {s = s} m bs (writes {o = o} {v = v} k) a t = write-streams m bs (s .device) o v a t k
 call-streams m bs (responds e) a t = t
 
 -- ---- the PCRs, call by call
 
 -- 24 PCRs, and 00h in PCRs 17 to 22 while the sequence is open
-record Zeroed (sequence : Bool) (b : List Pcr) : Type 0 where
-  whole : length b ≡ pcrs
-  zeros : sequence ≡ true → (p : ℕ) → isLaunchPcr p ≡ true → valueAt b p ≡ allBytes 0
+pub record Zeroed (sequence : Bool) (b : List Pcr) : Type 0 where
+  pub whole : length b ≡ pcrs
+  pub zeros : sequence ≡ true → (p : ℕ) → isLaunchPcr p ≡ true → valueAt b p ≡ allBytes 0
 
-abbrev ZeroedIn : Device → Type 0
+abbrev pub ZeroedIn : Device → Type 0
 ZeroedIn d = Zeroed (d .launch .sequence) (d .pcrs)
 
 closed-zeroed : (b : List Pcr) → length b ≡ pcrs → Zeroed false b
@@ -171,30 +173,31 @@ write-zeroed (joins u h i l) b = b
 write-zeroed (ignores i) b = b
 write-zeroed (aborts l u h e i) b = b
 write-zeroed (keeps l u h e i) b = b
-write-zeroed (sets u q n h s) b = b
-write-zeroed (commands u q n h c k) b = b
+write-zeroed (sets u q n h s t) b = b
+write-zeroed (commands u q n h c k t) b = b
 
-power-zeroed : {established : Bool} {identity w r : List ℕ} {t : Result} → PowerCase established identity w r t → ZeroedIn (t .device)
+pub power-zeroed : {established : Bool} {identity w r : List ℕ} {t : Result} → PowerCase established identity w r t → ZeroedIn (t .device)
 power-zeroed (power.refused l) = fresh-zeroed _ _ _
 power-zeroed (power.powered l) = fresh-zeroed _ _ _
 
-call-zeroed : {c : Call} {n : ℕ} {s s′ : State} → CallCase s c n s′ → ZeroedIn (s .device) → ZeroedIn (s′ .device)
+pub call-zeroed : {c : Call} {n : ℕ} {s s′ : State} → CallCase s c n s′ → ZeroedIn (s .device) → ZeroedIn (s′ .device)
 call-zeroed (same p e) b = b
 call-zeroed (powers k) b = power-zeroed k
 call-zeroed (resets e) b = fresh-zeroed _ _ _
-call-zeroed (reads e) b = b
+call-zeroed (looks e) b = b
+call-zeroed (reads i e) b = b
 call-zeroed (writes k) b = write-zeroed k b
 call-zeroed (responds e) b = b
 
 -- ---- what an accepted write does to the PCRs
 
-data PcrStep (d : Device) (o : ℕ) : List Pcr → Type 0 where
+pub data PcrStep (d : Device) (o : ℕ) : List Pcr → Type 0 where
   started : inFour hashStart o ≡ true → rule.startCounts (owner d) ≡ true → PcrStep d o (launched (d .pcrs))
   ended : inFour hashStart o ≡ false → inFour hashEnd o ≡ true → d .launch .sequence ≡ true → PcrStep d o (measured (d .pcrs) (d .launch))
   -- no start that counts, and no end of an open sequence
   kept : (inFour hashStart o ≡ true → rule.startCounts (owner d) ≡ false) → (inFour hashEnd o ≡ true → d .launch .sequence ≡ false) → PcrStep d o (d .pcrs)
 
-pcr-step : {d d′ : Device} {w r w′ r′ : List ℕ} {o v : ℕ} → Writes d w r o v d′ w′ r′ → PcrStep d o (d′ .pcrs)
+pub pcr-step : {d d′ : Device} {w r w′ r′ : List ℕ} {o v : ℕ} → Writes d w r o v d′ w′ r′ → PcrStep d o (d′ .pcrs)
 pcr-step {d} {o = o} k = by k
   where
     none : Unhashed o → PcrStep d o (d .pcrs)
@@ -207,11 +210,12 @@ pcr-step {d} {o = o} k = by k
     by (ignores (lateStart i j)) = kept (λ s. j) (λ e. absurd (apart o i e))
     by (ignores (lateEnd i j k)) = kept (λ s. absurd (clash s i)) (λ e. k)
     by (ignores (pageIgnored u h i)) = none u
-    by (ignores (registerIgnored u h n)) = none u
+    by (ignores (missed u h n i)) = none u
+    by (ignores (registerIgnored u h n i)) = none u
     by (aborts l u h e i) = none u
     by (keeps l u h e i) = none u
-    by (sets u q n h k) = none u
-    by (commands u q n h c k) = none u
+    by (sets u q n h k t) = none u
+    by (commands u q n h c k t) = none u
 
 module _ {d : Device} {o : ℕ} where
   start-pcrs : {b : List Pcr} → PcrStep d o b → inFour hashStart o ≡ true → rule.startCounts (owner d) ≡ true → b ≡ launched (d .pcrs)
@@ -229,12 +233,13 @@ module _ {d : Device} {o : ℕ} where
   kept-pcrs m v a (ended i j k) q = absurd (clash (a .sequenceOpen ∙ k) (sym (ap (changesPcrs m) (end-event o v i j)) ∙ q))
   kept-pcrs m v a (kept f g) q = refl
 
-call-pcrs : {c : Call} {n : ℕ} {s s′ : State} (m : Model) → Keeps m s → CallCase s c n s′ → changesPcrs m (eventOf c n) ≡ false
+call-pcrs : {c : Call} {n : ℕ} {s s′ : State} (m : Model) → Keeps m (s .device) → CallCase s c n s′ → changesPcrs m (eventOf c n) ≡ false
     → s′ .device .pcrs ≡ s .device .pcrs
 call-pcrs m a (same p e) q = refl
 call-pcrs m a (powers k) q = absurd (true≢false q)
 call-pcrs m a (resets e) q = absurd (true≢false q)
-call-pcrs m a (reads e) q = refl
+call-pcrs m a (looks e) q = refl
+call-pcrs m a (reads i e) q = refl
 call-pcrs m a (writes {v = v} k) q = kept-pcrs m v a (pcr-step k) q
 call-pcrs m a (responds e) q = refl
 
@@ -245,12 +250,62 @@ accepted-write s o v e = by _ (write-case (s .device) (s .writeFifo) (s .readFif
   where
     by : (t : Result) → WriteCase (s .device) (s .writeFifo) (s .readFifo) o v t → t .refusal ≡ accepted
         → Writes (s .device) (s .writeFifo) (s .readFifo) o v (t .device) (t .writeFifo) (t .readFifo)
-    by t (bus.refused f) q = absurd (f q)
-    by t (bus.accepts k) q = k
+    by t (bus.refused e f) q = absurd (f q)
+    by t (bus.overlong e h i l) q = absurd (omega arith)
+    by t (bus.accepts e k) q = k
+
+-- ---- the established flag
+
+-- a start that counts sets it; any other write leaves it
+pub data FlagStep (d : Device) (o : ℕ) : Bool → Type 0 where
+  set : inFour hashStart o ≡ true → rule.startCounts (owner d) ≡ true → FlagStep d o true
+  stayed : (inFour hashStart o ≡ true → rule.startCounts (owner d) ≡ false) → FlagStep d o (d .control .established)
+
+flag-step : {d d′ : Device} {w r w′ r′ : List ℕ} {o v : ℕ} → Writes d w r o v d′ w′ r′ → FlagStep d o (d′ .control .established)
+flag-step {d} {o = o} k = by k
+  where
+    none : inFour hashStart o ≡ false → FlagStep d o (d .control .established)
+    none e = stayed (λ s. absurd (clash s e))
+
+    by : {d′ : Device} {w r w′ r′ : List ℕ} {v : ℕ} → Writes d w r o v d′ w′ r′ → FlagStep d o (d′ .control .established)
+    by (starts i j) = set i j
+    by (ends i j k) = none i
+    by (joins u h i l) = none (u .start)
+    by (ignores (lateStart i j)) = stayed (λ s. j)
+    by (ignores (lateEnd i j k)) = none i
+    by (ignores (pageIgnored u h i)) = none (u .start)
+    by (ignores (missed u h n i)) = none (u .start)
+    by (ignores (registerIgnored u h n i)) = none (u .start)
+    by (aborts l u h e i) = none (u .start)
+    by (keeps l u h e i) = none (u .start)
+    by (sets u q n h k t) = none (u .start)
+    by (commands u q n h c k t) = none (u .start)
+
+flag-set : {d : Device} {o : ℕ} {t : Bool} → FlagStep d o t → inFour hashStart o ≡ true → rule.startCounts (owner d) ≡ true → t ≡ true
+flag-set (set i j) s c = refl
+flag-set (stayed f) s c = absurd (clash c (f s))
+
+reset-flag : (established : Bool) (identity : List ℕ) (n : ℕ) → freshDevice established identity n .control .established ≡ established
+unfolding freshDevice
+reset-flag established identity n = refl
+
+call-flag : {c : Call} {n : ℕ} {s s′ : State} (m : Model) → Keeps m (s .device) → CallCase s c n s′ → isPowerOn c ≡ false → establishes m (eventOf c n) ≡ false
+    → s′ .device .control .established ≡ s .device .control .established
+call-flag m a (same p e) q f = refl
+call-flag m a (powers k) q f = absurd (true≢false q)
+call-flag m a (resets e) q f = reset-flag _ _ _
+call-flag m a (looks e) q f = refl
+call-flag m a (reads i e) q f = refl
+call-flag {s = s} m a (writes {o = o} {v = v} k) q f = by (flag-step k)
+  where
+    by : {t : Bool} → FlagStep (s .device) o t → t ≡ s .device .control .established
+    by (set i j) = absurd (clash (counts-same a ∙ j) (sym (ap (establishes m) (start-event o v i)) ∙ f))
+    by (stayed g) = refl
+call-flag m a (responds e) q f = refl
 
 -- ---- the claim
 
-module _ (m : Model) (bs : List ℕ) (s : State) (a : Keeps m s) (t : Stands (s .device .launch) bs) (b : ZeroedIn (s .device)) where
+module _ (m : Model) (bs : List ℕ) (s : State) (a : Keeps m (s .device)) (t : Stands (s .device .launch) bs) (b : ZeroedIn (s .device)) where
   measures : (o v : ℕ) → refusalOf (write o v) s ≡ accepted → inFour hashEnd o ≡ true → m .sequence ≡ true
       → left (write o v) s .device .pcrs ≡ replaced (s .device .pcrs) launchPcr (sha1 (valueAt (s .device .pcrs) launchPcr ++ sha1 bs))
   measures o v z i e =
@@ -270,10 +325,12 @@ module _ (m : Model) (bs : List ℕ) (s : State) (a : Keeps m s) (t : Stands (s 
         ap (λ (y : List Pcr). valueAt y p) (measures o v z i e)
         ∙ replaced-at (s .device .pcrs) launchPcr p _ (omega (arith, b .whole))
         ∙ ap (λ (y : List ℕ). cond (eqb p launchPcr) (sha1 (y ++ sha1 bs)) (valueAt (s .device .pcrs) p)) (b .zeros (sym (a .sequenceOpen) ∙ e) launchPcr refl);
+    sets = λ o v z i e. flag-set (flag-step (accepted-write s o v z)) i (sym (counts-same a) ∙ e);
+    established = λ c p e. call-flag m a (call-case c s) p e;
     keeps = λ c e. call-pcrs m a (call-case c s) e;
   }
 
-all-launched : (m : Model) (bs : List ℕ) (s : State) (cs : List Call) → Keeps m s → Sound m → Stands (s .device .launch) bs → ZeroedIn (s .device)
+all-launched : (m : Model) (bs : List ℕ) (s : State) (cs : List Call) → Keeps m (s .device) → Sound m → Stands (s .device .launch) bs → ZeroedIn (s .device)
     → Launched (run m (events (heard s cs))) (streamFrom m bs (heard s cs)) (after s cs)
 unfolding run events heard after streamFrom
 all-launched m bs s [] a h t b = launched-now m bs s a t b
@@ -281,8 +338,8 @@ all-launched m bs s (c ∷ cs) a h t b =
     all-launched (step m (happens c s)) (streamStep m bs (entryOf c (refusalOf c s))) (left c s) cs
     (one-call m c s a h) (sound-call m c (refusalOf c s) h) (call-streams m bs (call-case c s) a t) (call-zeroed (call-case c s) b)
 
-pub launch-claim : LaunchClaim
+pub launches : OverLists (λ s₀ h s. Launched (modelAfter h) (streamAfter h) s)
 unfolding modelAfter run events heard after streamFrom
-launch-claim s e i cs =
+launches s e i cs =
     let k : _ = power-case e i (s .writeFifo) (s .readFifo) in
     all-launched fresh [] (left (powerOn e i) s) cs (power-keeps k) sound-fresh (power-streams [] k) (power-zeroed k)

@@ -26,10 +26,10 @@ use Rattle.call_respond.proofs.Cases as engine
 use Rattle.call_respond.proofs.Cases.{RespondCase, respond-case}
 use Rattle.claims.specs.Calls.{Call, powerOn, respond, isPowerOn, State, left, after}
 use Rattle.claims.specs.StaleAnswers.{running, runOf, runsBegun, noPowerOn, RefusedAs, Refused, NoStaleAnswer, StaleAnswersRefused}
-use Rattle.claims.proofs.CallCases.{CallCase, same, powers, resets, reads, writes, responds, leftBy, call-case}
+use Rattle.claims.proofs.CallCases.{CallCase, same, powers, resets, looks, reads, writes, responds, leftBy, call-case}
 
 -- a command is in Execution just where the answer's refusal looks for it
-running-is : (p : Phase) → running p ≡ executes p
+pub running-is : (p : Phase) → running p ≡ executes p
 running-is Idle = refl
 running-is Ready = refl
 running-is (Reception n) = refl
@@ -85,14 +85,15 @@ write-moves (joins u h i l) = unmoved
 write-moves (ignores i) = unmoved
 write-moves (aborts l u h e i) = leaves refl
 write-moves (keeps l u h e i) = unmoved
-write-moves (sets u q n h s) = unmoved
-write-moves (commands u q n h c k) = command-moves k
+write-moves (sets u q n h s t) = unmoved
+write-moves (commands u q n h c k t) = command-moves k
 
 call-moves : {c : Call} {n : ℕ} {s s′ : State} → CallCase s c n s′ → isPowerOn c ≡ false → Devices (s .device) (s′ .device)
 call-moves (same p e) q = unmoved
 call-moves (powers k) q = absurd (true≢false q)
 call-moves {s = s} (resets e) q = reset-moves (s .device) _ _
-call-moves (reads e) q = read-moves _ _
+call-moves (looks e) q = unmoved
+call-moves (reads i e) q = read-moves _ _
 call-moves (writes k) q = write-moves k
 call-moves (responds e) q = leaves refl
 
@@ -178,7 +179,8 @@ call-fits c s l = by (call-case c s)
     by (powers k) = power-fits k
     by (same p e) = l
     by (resets e) = moved (reset-moves (s .device) _ _)
-    by (reads e) = l
+    by (looks e) = l
+    by (reads i e) = l
     by (writes k) = moved (write-moves k)
     by (responds e) = l
 

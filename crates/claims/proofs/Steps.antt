@@ -2,6 +2,7 @@
 use mathlib.Core.Bool.{Bool}
 use mathlib.Core.List.{List, [], _∷_}
 use Prim.Native.Nat.{ℕ}
+use lib.ListN.{take}
 use denote.Ref.{RefT, now}
 use contract.Lifetimes.{Lfts}
 use Rattle.arbiter.specs.State.{locality}
@@ -70,7 +71,19 @@ pub data Runs : State → List (Call × Answer) → State → Type 0 where
   none : {s : State} → Runs s [] s
   more : {s s₁ s₂ : State} {c : Call} {a : Answer} {cs : List (Call × Answer)} → Step c s a s₁ → Runs s₁ cs s₂ → Runs s ((c, a) ∷ cs) s₂
 
--- a claim of what is heard and what is left, over every list of calls that starts with a power-on
-abbrev pub OnContracts : (List (Call × Answer) → State → Type 0) → Type 0
+-- the same where each call is lent FIFOs of its own
+pub data LentRuns : Device → List (Call × Answer) → Device → Type 0 where
+  noneLent : {d : Device} → LentRuns d [] d
+  moreLent : {d d₂ : Device} {w r : List ℕ} {s₁ : State} {c : Call} {a : Answer} {cs : List (Call × Answer)} → Step c (state d w r) a s₁ → LentRuns (s₁ .device) cs d₂
+      → LentRuns d ((c, a) ∷ cs) d₂
+
+-- a claim after each call of every such list that starts with a power-on: of what is heard up to there, and of the record
+abbrev pub OnLentContracts : (List (Call × Answer) → Device → Type 0) → Type 0
+OnLentContracts P = (s₀ s₁ : State) (d : Device) (established : Bool) (identity : List ℕ) (a : Answer) (cs : List (Call × Answer))
+    → Step (powerOn established identity) s₀ a s₁ → LentRuns (s₁ .device) cs d
+    → (n : ℕ) → (dₙ : Device) × LentRuns (s₁ .device) (take n cs) dₙ × P ((powerOn established identity, a) ∷ take n cs) dₙ
+
+-- a claim of what the first call was handed, what is heard and what is left, over every list of calls that starts with a power-on
+abbrev pub OnContracts : (State → List (Call × Answer) → State → Type 0) → Type 0
 OnContracts P = (s₀ s₁ s : State) (established : Bool) (identity : List ℕ) (a : Answer) (cs : List (Call × Answer))
-    → Step (powerOn established identity) s₀ a s₁ → Runs s₁ cs s → P ((powerOn established identity, a) ∷ cs) s
+    → Step (powerOn established identity) s₀ a s₁ → Runs s₁ cs s → P s₀ ((powerOn established identity, a) ∷ cs) s

@@ -8,20 +8,48 @@ use Rattle.refusal.specs.Refusal.{accepted}
 use Rattle.record.specs.Record.{freshDevice}
 use Rattle.claims.specs.Calls.{Call, powerOn, isPowerOn, State, state, Answer, Called}
 use Rattle.claims.specs.Unchanged.{Refuses, refusedValue}
-use Rattle.claims.specs.Demand3.{Demand3After}
+use Rattle.claims.specs.Demand3.{Demand3After, Demand3Handed}
 use Rattle.claims.specs.Launch.{LaunchedAfter}
 use Rattle.claims.specs.StaleAnswers.{NoStaleAnswerAfter}
+use Rattle.claims.specs.Progress.{ProgressAfter}
+use Rattle.claims.specs.Mailbox.{MailedAfter}
+use Rattle.claims.specs.Answers.{OwnedAfter}
+use Rattle.claims.specs.Signals.{SignalledAfter}
+use Rattle.claims.specs.History.{GivenAfter}
 use Rattle.claims.specs.Residue.{NoResidueAfter}
-use Rattle.claims.proofs.Steps.{Step, OnContracts}
-use Rattle.claims.proofs.Bridge.{step-called, on-contracts}
+use Rattle.claims.proofs.Steps.{Step, OnContracts, OnLentContracts}
+use Rattle.claims.proofs.Bridge.{step-called, on-contracts, on-lent-contracts}
 use Rattle.claims.proofs.Unchanged.{refusals-change-nothing}
 use Rattle.claims.proofs.Demand3 as claim
-use Rattle.claims.proofs.Launch.{launch-claim}
 use Rattle.claims.proofs.StaleAnswers.{stale-answers-refused}
 use Rattle.claims.proofs.Residue as fifos
+use Rattle.claims.proofs.Progress as working
+use Rattle.claims.proofs.Progress.{launch-claim}
+use Rattle.claims.proofs.Mailbox.{mailbox-claim}
+use Rattle.claims.proofs.Answers as answers
+use Rattle.claims.proofs.Signals.{signals-claim}
+use Rattle.claims.proofs.History as history
 
-pub demand-3 : OnContracts Demand3After
-demand-3 = on-contracts Demand3After claim.demand-3
+pub demand-3 : OnLentContracts Demand3After
+demand-3 = on-lent-contracts Demand3After claim.demand-3
+
+pub demand-3-handed : OnContracts Demand3Handed
+demand-3-handed = on-contracts Demand3Handed claim.demand-3-handed
+
+pub progress : OnContracts ProgressAfter
+progress = on-contracts ProgressAfter working.progress
+
+pub mailed : OnContracts MailedAfter
+mailed = on-contracts MailedAfter mailbox-claim
+
+pub owned : OnContracts OwnedAfter
+owned = on-contracts OwnedAfter answers.owned
+
+pub signalled : OnContracts SignalledAfter
+signalled = on-contracts SignalledAfter signals-claim
+
+pub history-is-all : OnContracts GivenAfter
+history-is-all = on-contracts GivenAfter history.history-is-all
 
 pub launched : OnContracts LaunchedAfter
 launched = on-contracts LaunchedAfter launch-claim

@@ -21,13 +21,14 @@ use Rattle.call_power.proofs.Cases as power
 use Rattle.call_power.proofs.Cases.{PowerCase, power-case}
 use Rattle.claims.specs.Calls.{Call, powerOn, reset, read, write, respond, pcrValue, interruptLine, mayReset, mayExtend, window, isPowerOn, State, state, byte, bytes, flag, shownBy, called}
 use Rattle.claims.specs.Unchanged.{Refuses, refusedValue, RefusalsChangeNothing}
-use Rattle.claims.proofs.CallCases.{CallCase, same, powers, resets, reads, writes, responds, leftBy, call-case}
+use Rattle.claims.proofs.CallCases.{CallCase, same, powers, resets, looks, reads, writes, responds, leftBy, call-case}
 
 stays : {c : Call} {n : ℕ} {s s′ : State} → CallCase s c n s′ → isPowerOn c ≡ false → (n ≡ accepted → ⊥) → s′ ≡ s
 stays (same p e) q f = refl
 stays (powers k) q f = absurd (true≢false q)
 stays (resets k) q f = absurd (f refl)
-stays (reads k) q f = absurd (f refl)
+stays (looks k) q f = refl
+stays (reads i k) q f = absurd (f refl)
 stays (writes k) q f = absurd (f refl)
 stays (responds k) q f = absurd (f refl)
 
@@ -40,8 +41,9 @@ fresh (power.powered l) f = absurd (f refl)
 
 read-gives : {d : Device} {w r : List ℕ} {o : ℕ} {t : ReadOutcome} → ReadCase d w r o t → (t .refusal ≡ accepted → ⊥) → byte (t .byte) ≡ byte 0xff
 read-gives (bus.refused e f) g = refl
-read-gives (bus.stays e b) g = absurd (g refl)
-read-gives (bus.moves e h) g = absurd (g refl)
+read-gives (bus.stays e i b) g = absurd (g refl)
+read-gives (bus.moves e i h) g = absurd (g refl)
+read-gives (bus.misses e i h) g = absurd (g refl)
 
 pcr-gives : {d : Device} {i : ℕ} {t : PcrOutcome} → PcrCase d i t → (t .refusal ≡ accepted → ⊥) → bytes (t .value) ≡ bytes (replicate 20 0)
 pcr-gives (query.refused f) g = refl

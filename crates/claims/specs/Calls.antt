@@ -134,12 +134,40 @@ unfoldable pub heard : State → List Call → List (Call × Answer)
 heard s [] = []
 heard s (c ∷ cs) = (c, called c s .answer) ∷ heard (left c s) cs
 
--- a claim over every list that starts with a power-on, accepted or refused, with FIFOs of any lengths: of what is heard and of what is left
-abbrev pub OverLists : (List (Call × Answer) → State → Type 0) → Type 0
+-- a claim over every list that starts with a power-on, accepted or refused, with FIFOs of any lengths: of what the first call was handed, of
+-- what is heard and of what is left
+abbrev pub OverLists : (State → List (Call × Answer) → State → Type 0) → Type 0
 OverLists P = (s : State) (established : Bool) (identity : List ℕ) (cs : List Call)
-    → P (heard s (powerOn established identity ∷ cs)) (after s (powerOn established identity ∷ cs))
+    → P s (heard s (powerOn established identity ∷ cs)) (after s (powerOn established identity ∷ cs))
 
--- the first call was accepted
+-- ---- a list of calls, each lent FIFOs of its own: the host may lend others, of other lengths, at any call
+
+pub record Lent : Type 0 where
+  pub call : Call
+  pub writeFifo : List ℕ
+  pub readFifo : List ℕ
+
+-- what such a call is handed, and the record that it leaves
+abbrev pub handed : Lent → Device → State
+handed k d = state d (k .writeFifo) (k .readFifo)
+
+abbrev pub lentLeft : Lent → Device → Device
+lentLeft k d = left (k .call) (handed k d) .device
+
+unfoldable pub lentAfter : Device → List Lent → Device
+lentAfter d [] = d
+lentAfter d (k ∷ ks) = lentAfter (lentLeft k d) ks
+
+unfoldable pub lentHeard : Device → List Lent → List (Call × Answer)
+lentHeard d [] = []
+lentHeard d (k ∷ ks) = (k .call, called (k .call) (handed k d) .answer) ∷ lentHeard (lentLeft k d) ks
+
+-- a claim after each call of every such list that starts with a power-on, accepted or refused: of what is heard up to there, and of the record
+abbrev pub OverLent : (List (Call × Answer) → Device → Type 0) → Type 0
+OverLent P = (d : Device) (first : Lent) → isPowerOn (first .call) ≡ true → (ks : List Lent) (n : ℕ) → P (lentHeard d (first ∷ take n ks)) (lentAfter d (first ∷ take n ks))
+
+-- ---- the first call was accepted
+
 abbrev pub StartsAccepted : List (Call × Answer) → Type 0
 StartsAccepted [] = ⊥
 StartsAccepted (c ∷ cs) = c .1 .refusal ≡ accepted

@@ -2,7 +2,7 @@
 -- numbers and the waiting model alone; what its end measures; which events change a PCR. Assumes nothing.
 use Prim.Native.Nat.{ℕ}
 use mathlib.Core.Path.{_≡_}
-use mathlib.Core.Bool.{Bool, true, false, cond}
+use mathlib.Core.Bool.{Bool, true, false, cond, _||_}
 use mathlib.Core.List.{List, [], _∷_, _++_}
 use lib.Dec.{eqb}
 use lib.ListN.{length}
@@ -14,8 +14,8 @@ use Rattle.pcr.specs.Bank.{pcrs, allBytes, valueAt, replaced}
 use Rattle.pcr.specs.declared.Pcr.{Pcr}
 use Rattle.record.specs.declared.Launch.{Launch}
 use Rattle.arbiter_model.specs.Model.{Model, Holder, free, held, isHashStart, isHashEnd, Event, restart, hashStart, hashEnd, access, nothing, step, fresh}
-use Rattle.claims.specs.Calls.{Call, write, State, Answer, refusalOf, left, OverLists}
-use Rattle.claims.specs.Events.{Entry, anew, written, none, entryOf, eventOf, happens, modelAfter}
+use Rattle.claims.specs.Calls.{Call, write, isPowerOn, State, Answer, refusalOf, left, StartsAccepted, OverLists}
+use Rattle.claims.specs.Events.{Entry, poweredOn, restarted, written, readAt, answered, none, entryOf, eventOf, happens, modelAfter}
 
 -- ---- the bytes of the open sequence: those accepted since the last start that counted
 
@@ -37,8 +37,11 @@ streamWritten m bs o v =
     bs))
 
 abbrev pub streamStep : Model → List ℕ → Entry → List ℕ
-streamStep m bs anew = []
+streamStep m bs (poweredOn established identity) = []
+streamStep m bs restarted = []
 streamStep m bs (written o v) = streamWritten m bs o v
+streamStep m bs (readAt o) = bs
+streamStep m bs (answered a) = bs
 streamStep m bs none = bs
 
 -- from a model m and bytes bs
@@ -72,6 +75,14 @@ changesPcrs m hashEnd = m .sequence
 changesPcrs m (access x a) = false
 changesPcrs m nothing = false
 
+-- the event that sets established: "Start .. established set"
+abbrev pub establishes : Model → Event → Bool
+establishes m restart = false
+establishes m hashStart = startCounts (m .active)
+establishes m hashEnd = false
+establishes m (access x a) = false
+establishes m nothing = false
+
 -- 24 PCRs, and 00h in PCRs 17 to 22 while a sequence is open
 pub record Banked (m : Model) (b : List Pcr) : Type 0 where
   pub whole : length b ≡ pcrs
@@ -93,11 +104,18 @@ pub record Launched (m : Model) (bs : List ℕ) (s : State) : Type 0 where
   -- .. so it is SHA-1 of twenty bytes 00h followed by that digest, and every other PCR stays
   pub value : (o v : ℕ) → refusalOf (write o v) s ≡ accepted → isHashEnd o ≡ true → m .sequence ≡ true
       → (p : ℕ) → valueAt (left (write o v) s .device .pcrs) p ≡ cond (eqb p launchPcr) (sha1 (allBytes 0 ++ sha1 bs)) (valueAt (s .device .pcrs) p)
+  -- a start that counts sets established, and else nothing but a power-on changes it
+  pub sets : (o v : ℕ) → refusalOf (write o v) s ≡ accepted → isHashStart o ≡ true → startCounts (m .active) ≡ true
+      → left (write o v) s .device .control .established ≡ true
+  pub established : (c : Call) → isPowerOn c ≡ false → establishes m (happens c s) ≡ false
+      → left c s .device .control .established ≡ s .device .control .established
   -- no PCR changes but by power-on, reset, hash start and hash end
   pub keeps : (c : Call) → changesPcrs m (happens c s) ≡ false → left c s .device .pcrs ≡ s .device .pcrs
 
-abbrev pub LaunchedAfter : List (Call × Answer) → State → Type 0
-LaunchedAfter h s = Launched (modelAfter h) (streamAfter h) s
+pub record LaunchedAfter (s₀ : State) (h : List (Call × Answer)) (s : State) : Type 0 where
+  pub launched : Launched (modelAfter h) (streamAfter h) s
+  -- after an accepted power-on every start and every end is accepted
+  pub accepts : StartsAccepted h → (o v : ℕ) → (isHashStart o || isHashEnd o) ≡ true → refusalOf (write o v) s ≡ accepted
 
 -- the claim: after every list of calls that starts with a power-on
 abbrev pub LaunchClaim : Type 0

@@ -5,4 +5,9 @@ pub mod Demand3
 pub mod Example
 pub mod Launch
 pub mod StaleAnswers
+pub mod Mailbox
+pub mod Progress
+pub mod Answers
+pub mod Signals
+pub mod History
 pub mod Residue

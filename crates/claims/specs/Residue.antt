@@ -41,16 +41,16 @@ pub record Tidy (p : Phase) (w r : List ℕ) : Type 0 where
 -- what holds of the state s after such a list of calls
 pub record NoResidue (s : State) : Type 0 where
   -- while the device is free, or Idle, or Ready, both FIFOs are all 00h
-  pub unowned : activeIn s ≡ free → BothZero s
+  pub unowned : activeIn (s .device) ≡ free → BothZero s
   pub idle : s .device .phase ≡ Idle → BothZero s
   pub ready : s .device .phase ≡ Ready → BothZero s
   -- in any phase, all is 00h but the bytes of the command that is being received or run, or of its answer
   pub tidy : Tidy (s .device .phase) (s .writeFifo) (s .readFifo)
   -- a call that takes the device from its owner, or gives it to one, leaves Idle and both FIFOs all 00h: the next owner starts from those
-  pub turns : (c : Call) → (activeIn (left c s) ≡ activeIn s → ⊥) → (left c s .device .phase ≡ Idle) × BothZero (left c s)
+  pub turns : (c : Call) → (activeIn (left c s .device) ≡ activeIn (s .device) → ⊥) → (left c s .device .phase ≡ Idle) × BothZero (left c s)
 
-abbrev pub NoResidueAfter : List (Call × Answer) → State → Type 0
-NoResidueAfter h s = StartsAccepted h → NoResidue s
+abbrev pub NoResidueAfter : State → List (Call × Answer) → State → Type 0
+NoResidueAfter s₀ h s = StartsAccepted h → NoResidue s
 
 -- the claim: after every list of calls that starts with an accepted power-on
 abbrev pub ResidueClaim : Type 0

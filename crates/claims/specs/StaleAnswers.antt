@@ -49,8 +49,8 @@ NoStaleAnswer s =
     → (cs : List Call) → noPowerOn cs ≡ true → runsBegun (left c s) cs < 2 ^ 32
     → (a : List ℕ) → Refused (respond (runOf s) a) (after (left c s) cs)
 
-abbrev pub NoStaleAnswerAfter : List (Call × Answer) → State → Type 0
-NoStaleAnswerAfter h s = NoStaleAnswer s
+abbrev pub NoStaleAnswerAfter : State → List (Call × Answer) → State → Type 0
+NoStaleAnswerAfter s₀ h s = NoStaleAnswer s
 
 -- the claim: after every list of calls that starts with a power-on
 abbrev pub StaleAnswersRefused : Type 0

@@ -1,12 +1,12 @@
 -- The map by fours of bytes, as the code finds a register, and by the register that is found. Assumes nothing.
 use mathlib.Core.Path.{_≡_, refl, sym, ap, _∙_}
-use mathlib.Core.Bool.{Bool, true, false, cond}
+use mathlib.Core.Bool.{Bool, true, false, cond, true≢false}
 use Prim.Native.Nat.{ℕ, zero, suc, _+_, _-_, _*_, _/_, _%_, _<_, _≤_}
 use native.Mathlib.Omega.{arith}
 use lib.Dec.{eqb, ltb}
 use borrow.Author.Tests.{eqb-true, eq-eqb, ne-eqb, lt-ltb, le-ltb}
 use Rattle.reg_layout.specs.Offsets.{within, inFour, access, intEnable, intVector, intStatus, intfCapability, sts, dataFifo, identity}
-use Rattle.reg_layout.proofs.Within.{in-within, not-within}
+use Rattle.reg_layout.proofs.Within.{in-within, not-within, within-then}
 use Rattle.reg_map.specs.declared.Register.{Register}
 use Rattle.reg_map.specs.declared.Register.the-variants.{Access, IntEnable, IntVector, IntStatus, IntfCapability, Sts, DataFifo, Identity, Reserved}
 use Rattle.reg_map.specs.Map.{identityAt, registerAt}
@@ -106,26 +106,61 @@ module _ (at : ℕ) where
 
 -- ---- the one eliminator of the map
 
-on-test : (P : Register → Type 0) {g h : Register} (t : Bool) → (t ≡ true → P g) → P h → P (cond t g h)
-on-test P true f m = f refl
-on-test P false f m = m
+-- nothing that takes a write lies there but perhaps ACCESS: no interrupt register, not byte 0 of STS, not the FIFO
+pub record Inert (at : ℕ) : Type 0 where
+  pub noEnable : inFour intEnable at ≡ false
+  pub noStatus : inFour intStatus at ≡ false
+  pub noCommand : eqb at sts ≡ false
+  pub noFifo : inFour dataFifo at ≡ false
 
-module _ (P : Register → Type 0) (at : ℕ) (accessed : at ≡ access → P Access) (enable : (i : ℕ) → P (IntEnable i)) (vector : P IntVector)
-    (status : (i : ℕ) → P (IntStatus i)) (capability : (i : ℕ) → P (IntfCapability i)) (state : (i : ℕ) → P (Sts i)) (fifo : P DataFifo)
-    (ids : (i : ℕ) → P (Identity i)) (none : P Reserved) where
+inert : (at : ℕ) → (intEnable ≤ at → at < intVector → ⊥) → (intStatus ≤ at → at < intfCapability → ⊥) → (at ≡ sts → ⊥) → (dataFifo ≤ at → at ≤ dataFifo + 3 → ⊥) → Inert at
+inert at a b c d = record {
+  noEnable = not-within intEnable (intEnable + 3) at (λ l m. a l (omega arith));
+  noStatus = not-within intStatus (intStatus + 3) at (λ l m. b l (omega arith));
+  noCommand = ne-eqb at sts c;
+  noFifo = not-within dataFifo (dataFifo + 3) at d;
+}
+
+vector-inert : (at : ℕ) → eqb at intVector ≡ true → Inert at
+vector-inert at e = rw (eqb-true at intVector e) (inert intVector (λ l m. omega arith) (λ l m. omega arith) (λ l. omega arith) (λ l m. omega arith))
+
+capability-inert : (at : ℕ) → inFour intfCapability at ≡ true → Inert at
+capability-inert at e =
+    let k : _ = within-then intfCapability (intfCapability + 3) at e in
+    inert at (λ l m. omega arith) (λ l m. omega arith) (λ l. omega arith) (λ l m. omega arith)
+
+identity-inert : (at : ℕ) → within identity (identity + 4) at ≡ true → Inert at
+identity-inert at e =
+    let k : _ = within-then identity (identity + 4) at e in
+    inert at (λ l m. omega arith) (λ l m. omega arith) (λ l. omega arith) (λ l m. omega arith)
+
+no-command : (at : ℕ) → within sts (sts + 2) at ≡ false → eqb at sts ≡ false
+no-command at e = ne-eqb at sts (λ q. let l : within sts (sts + 2) at ≡ true = rw q refl in true≢false (sym l ∙ e))
+
+on-test : (P : Register → Type 0) {g h : Register} (t : Bool) → (t ≡ true → P g) → (t ≡ false → P h) → P (cond t g h)
+on-test P true f m = f refl
+on-test P false f m = m refl
+
+module _ (P : Register → Type 0) (at : ℕ) (accessed : at ≡ access → P Access) (enable : inFour intEnable at ≡ true → P (IntEnable (at - intEnable)))
+    (vector : Inert at → P IntVector) (status : inFour intStatus at ≡ true → P (IntStatus (at - intStatus))) (capability : (i : ℕ) → Inert at → P (IntfCapability i))
+    (state : within sts (sts + 2) at ≡ true → P (Sts (at - sts))) (fifo : inFour dataFifo at ≡ true → P DataFifo) (ids : (i : ℕ) → Inert at → P (Identity i))
+    (none : Inert at → P Reserved) where
   pub register-elim : P (registerAt at)
   unfolding registerAt
   register-elim =
       on-test P (eqb at access) (λ e. accessed (eqb-true at access e))
-      (on-test P (inFour intEnable at) (λ e. enable (at - intEnable))
-      (on-test P (eqb at intVector) (λ e. vector)
-      (on-test P (inFour intStatus at) (λ e. status (at - intStatus))
-      (on-test P (inFour intfCapability at) (λ e. capability (at - intfCapability))
-      (on-test P (within sts (sts + 2) at) (λ e. state (at - sts))
-      (on-test P (inFour dataFifo at) (λ e. fifo)
-      (on-test P (within identity (identity + 4) at) (λ e. ids (at - identity)) none)))))))
+      (λ a. on-test P (inFour intEnable at) enable
+      (λ noEnable. on-test P (eqb at intVector) (λ e. vector (vector-inert at e))
+      (λ b. on-test P (inFour intStatus at) status
+      (λ noStatus. on-test P (inFour intfCapability at) (λ e. capability (at - intfCapability) (capability-inert at e))
+      (λ c. on-test P (within sts (sts + 2) at) state
+      (λ noSts. on-test P (inFour dataFifo at) fifo
+      (λ noFifo. on-test P (within identity (identity + 4) at) (λ e. ids (at - identity) (identity-inert at e))
+      (λ d. none (record { noEnable = noEnable; noStatus = noStatus; noCommand = no-command at noSts; noFifo = noFifo })))))))))
 
--- only ACCESS lies at the first place
-pub access-place : (at : ℕ) → registerAt at ≡ Access → at ≡ access
-access-place at =
-    register-elim (λ g. g ≡ Access → at ≡ access) at (λ e q. e) (λ i q. cc) (λ q. cc) (λ i q. cc) (λ i q. cc) (λ i q. cc) (λ q. cc) (λ i q. cc) (λ q. cc)
+-- the FIFO lies elsewhere
+pub access-apart : (at : ℕ) → at ≡ access → inFour dataFifo at ≡ false
+access-apart at e = rw e refl
+
+pub fifo-apart : (a e at : ℕ) → within a e at ≡ true → e < dataFifo → inFour dataFifo at ≡ false
+fifo-apart a e at t l = let k : _ = within-then a e at t in not-within dataFifo (dataFifo + 3) at (λ m n. omega arith)

@@ -2,7 +2,7 @@
 use mathlib.Core.Path.{_≡_, refl}
 use mathlib.Core.Bool.{Bool, true, false, cond, _&&_}
 use Prim.Native.Nat.{ℕ, _+_}
-use lib.Dec.{eqb, leb}
+use lib.Dec.{leb}
 use lib.ListN.{length}
 use Rattle.record.specs.Limits.{header}
 use Rattle.record.specs.declared.Phase.{Phase}
@@ -13,7 +13,7 @@ use Rattle.reg_sts_write.specs.declared.Commanded.{Commanded}
 use Rattle.reg_sts_write.specs.declared.sts.StsCommand.{StsCommand}
 use Rattle.reg_sts_write.specs.declared.sts.StsCommand.the-variants.{Nothing, CommandReady, TpmGo, ResponseRetry}
 use Rattle.reg_sts_write.specs.Completion.{commanded, withoutCause, ignored, enterCompletion, badSize}
-use Rattle.reg_sts_write.specs.Sts.{stsCommand, commandReadyCause, commandReady, nextRun, tpmGo, responseRetry, commandedBy, writeSts, writeDataFifo}
+use Rattle.reg_sts_write.specs.Sts.{commandReadyCause, commandReady, nextRun, tpmGo, responseRetry, commandedBy, writeDataFifo}
 
 -- from phase p, size being the declared size and c the FIFOs' length
 pub data CommandCase (run size c : ℕ) : Phase → Commanded → Type 0 where
@@ -57,19 +57,11 @@ module _ (run size c : ℕ) where
   retry-case (Execution n) = nothing
   retry-case (Completion n k) = retries
 
-  by-case : (j : StsCommand) (p : Phase) → CommandCase run size c p (commandedBy j p run size c)
-  by-case Nothing p = nothing
-  by-case CommandReady p = ready-case p
-  by-case TpmGo p = go-case p
-  by-case ResponseRetry p = retry-case p
-
-  pub sts-case : (p : Phase) (i v : ℕ) → CommandCase run size c p (writeSts p run size c i v)
-  unfolding writeSts
-  sts-case p i v = by (eqb i 0)
-    where
-      by : (t : Bool) → CommandCase run size c p (cond t (commandedBy (stsCommand v) p run size c) (ignored p run))
-      by true = by-case (stsCommand v) p
-      by false = nothing
+  pub order-case : (j : StsCommand) (p : Phase) → CommandCase run size c p (commandedBy j p run size c)
+  order-case Nothing p = nothing
+  order-case CommandReady p = ready-case p
+  order-case TpmGo p = go-case p
+  order-case ResponseRetry p = retry-case p
 
   pub fifo-case : (p : Phase) → CommandCase run size c p (writeDataFifo p run size c)
   fifo-case Idle = nothing

@@ -1,0 +1,232 @@
+-- Whose command runs and whose answer is read. Assumes nothing.
+use mathlib.Core.Path.{_≡_, refl, sym, ap, _∙_}
+use mathlib.Core.Bool.{Bool, true, false, cond, _&&_, _||_, true≢false}
+use mathlib.Core.List.{List, [], _∷_}
+use Prim.Native.Nat.{ℕ, _-_, _/_, _≤_, _<_}
+use native.Mathlib.Omega.{arith}
+use lib.ListN.{length, getD, take, replicate}
+use lib.Seq.{take-append-seam}
+use lib.Dec.{eqb, ltb}
+use borrow.Author.Tests.{eqb-true, eq-eqb, le-leb, lt-ltb, ltb-false}
+use Rattle.refusal.specs.Refusal.{accepted}
+use Rattle.arbiter.specs.State.{holds}
+use Rattle.arbiter_model.specs.Model.{Model, held, step, fresh}
+use Rattle.arbiter_model.specs.Waits.{run}
+use Rattle.record.specs.declared.Device.{Device}
+use Rattle.pcr.proofs.MaskTable.{neither}
+use Rattle.record_shape.proofs.Clauses.{both-true}
+use Rattle.reg_fifo.specs.Fifo.{fifoByte}
+use Rattle.bus_resolve.specs.Resolve.{pageAt}
+use Rattle.bus_resolve.proofs.Cases.{hashPage}
+use Rattle.call_admission.specs.Refusals.{executes, lentRefusalOf, busRefusalOf, answerRefusalOf}
+use Rattle.call_admission.proofs.RefusalLaws.{answer-then}
+use Rattle.call_outcome.specs.Result.{Result}
+use Rattle.call_outcome.specs.declared.ReadOutcome.{ReadOutcome}
+use Rattle.call_power.proofs.Cases.{power-case}
+use Rattle.call_query.specs.Query as query
+use Rattle.call_query.specs.declared.Span.{Span}
+use Rattle.call_query.proofs.Cases as asking
+use Rattle.call_query.proofs.Cases.{WindowCase, window-case}
+use Rattle.call_bus.proofs.Cases as bus
+use Rattle.call_bus.proofs.Cases.{owner, ReadCase, read-case, Writes, starts, ends, joins, ignores, aborts, keeps, sets, commands, WriteCase, write-case}
+use Rattle.call_respond.proofs.Cases as engine
+use Rattle.call_respond.proofs.Cases.{RespondCase, respond-case}
+use Rattle.claims.specs.Calls as call
+use Rattle.claims.specs.Calls.{Call, powerOn, read, write, respond, window, State, state, nothing, byte, bytes, Answer, gives, changes, shownBy, called, refusalOf, left, after, heard}
+use Rattle.claims.specs.Events.{written, answered, entryOf, eventFor, happens, events, modelAfter}
+use Rattle.claims.specs.Mailbox.{Mailbox, idle, ready, receiving, executing, answering, Mail, mail, sizeOf, fetched, isActive, isSts, isFifo, mailStep, mailFrom, phaseOf}
+use Rattle.claims.specs.Answers.{Trail, trail, trailStep, trailFrom, endsRun, fits, answersRun, Undisturbed, Owned, OwnedClaim}
+use Rattle.claims.proofs.CallCases.{CallCase, same, powers, resets, looks, reads, writes, responds, call-case}
+use Rattle.claims.proofs.Padded.{byte-padded}
+use Rattle.claims.proofs.Mailbox.{active-same, Elsewhere, at-hash-start, at-hash-end, at-access, write-length, Kept, one-kept, all-kept, first-kept}
+use Rattle.claims.proofs.Progress.{Placed, sequence-then, one-placed, book-fits, bus-value, works, power-placed, all-placed}
+use Rattle.claims.proofs.Trail.{Taken, Told, still-fetched, written-told, goes-on}
+
+-- ---- call by call
+
+-- what is in Execution
+executing-is : (b : Mailbox) → executes (phaseOf b) ≡ true → (bs : List ℕ) × (b ≡ executing bs)
+executing-is idle e = absurd (true≢false (sym e))
+executing-is ready e = absurd (true≢false (sym e))
+executing-is (receiving bs) e = absurd (true≢false (sym e))
+executing-is (executing bs) e = (bs, refl)
+executing-is (answering a k) e = absurd (true≢false (sym e))
+
+module _ {c : ℕ} {m : Model} {q : Mail} (s : State) (h : Kept c m q s) where
+  -- an accepted answer is one to the run in Execution
+  accepted-run : (n : ℕ) (a : List ℕ) → answerRefusalOf (s .device) (s .writeFifo) (s .readFifo) n a ≡ accepted → (bs : List ℕ) × (q .box ≡ executing bs) × (q .run ≡ n)
+  accepted-run n a e =
+      let k : _ = both-true (executes (s .device .phase)) (eqb (s .device .control .run) n) (answer-then _ _ _ _ _ _ refl e .1) in
+      let b : _ = executing-is (q .box) (ap executes (sym (h .boxed .phase)) ∙ k .0) in
+      (b .0, b .1, sym (h .boxed .number) ∙ eqb-true (s .device .control .run) n (k .1))
+
+  one-told : (t : Trail) → Told c m (q .box) t → (k : Call)
+      → Told c (step m (happens k s)) (mailStep c m q (entryOf k (refusalOf k s)) .box) (trailStep c m (q .box) t (entryOf k (refusalOf k s)))
+  one-told t d k = by (call-case k s)
+    where
+      read-on : (u : Bool) → Told c m (cond u (mail (fetched (q .box)) (q .run)) q .box) t
+      read-on true = still-fetched c m (q .box) t d
+      read-on false = d
+
+      starts-it : (bs : List ℕ) → q .box ≡ executing bs → m .active ≡ held (t .starter)
+      starts-it bs e = (rw e at d) .1
+
+      by : {k : Call} {n : ℕ} {s′ : State} → CallCase s k n s′ → Told c (step m (eventFor (entryOf k n))) (mailStep c m q (entryOf k n) .box) (trailStep c m (q .box) t (entryOf k n))
+      by (same p e) = rw e d
+      by (powers k) = tt
+      by (resets e) = tt
+      by (looks {o = o} e) = read-on (isActive (m .active) (o / 0x1000) && isFifo o)
+      by (reads {o = o} i e) = read-on (isActive (m .active) (o / 0x1000) && isFifo o)
+      by (writes {o = o} {v = v} k) = written-told c m q t o v (h .boxed .fits) d
+      by (responds {run = n} {a = a} e) = let b : _ = accepted-run n a e in starts-it (b .0) (b .1)
+
+all-told : (c : ℕ) (m : Model) (q : Mail) (t : Trail) (s : State) (cs : List Call) → Kept c m q s → Told c m (q .box) t
+    → Told c (run m (events (heard s cs))) (mailFrom c m q (heard s cs) .box) (trailFrom c m q t (heard s cs))
+unfolding run events heard mailFrom trailFrom
+all-told c m q t s [] h d = d
+all-told c m q t s (k ∷ ks) h d = all-told c _ _ _ (left k s) ks (one-kept c m q s h k) (one-told s h t d k)
+
+-- ---- a run that goes on
+
+module _ {c : ℕ} {m : Model} {q : Mail} (s : State) (h : Kept c m q s) where
+  -- an answer that is accepted has the number of the run and 10 to c bytes
+  accepts-fitting : (n : ℕ) (a : List ℕ) → answerRefusalOf (s .device) (s .writeFifo) (s .readFifo) n a ≡ accepted → fits c (q .run) n a ≡ true
+  accepts-fitting n a e =
+      let k : _ = neither (ltb (length a) 10) (ltb (length (s .writeFifo)) (length a)) (answer-then _ _ _ _ _ _ refl e .2) in
+      let u : length a ≤ c = omega (arith, write-length (h .boxed), ltb-false (length (s .writeFifo)) (length a) (k .1)) in
+      rw (eq-eqb (q .run) n (accepted-run s h n a e .2), le-leb 10 (length a) (ltb-false (length a) 10 (k .0)), le-leb (length a) c u) refl
+
+  -- a call that neither ends the run nor answers it leaves it
+  run-stays : (bs : List ℕ) → q .box ≡ executing bs → (k : Call) → endsRun m (entryOf k (refusalOf k s)) ≡ false → answersRun c (q .run) k ≡ false
+      → mailStep c m q (entryOf k (refusalOf k s)) ≡ q
+  run-stays bs e k f g = by (call-case k s) f g
+    where
+      is : q ≡ mail (executing bs) (q .run)
+      is = ap (λ (b : Mailbox). mail b (q .run)) e
+
+      read-on : (u : Bool) → cond u (mail (fetched (q .box)) (q .run)) q ≡ q
+      read-on true = rw e refl
+      read-on false = refl
+
+      by : {k : Call} {n : ℕ} {s′ : State} → CallCase s k n s′ → endsRun m (entryOf k n) ≡ false → answersRun c (q .run) k ≡ false → mailStep c m q (entryOf k n) ≡ q
+      by (same p i) f g = rw i refl
+      by (powers k) f g = absurd (true≢false f)
+      by (resets i) f g = absurd (true≢false f)
+      by (looks {o = o} i) f g = read-on (isActive (m .active) (o / 0x1000) && isFifo o)
+      by (reads {o = o} i j) f g = read-on (isActive (m .active) (o / 0x1000) && isFifo o)
+      by (writes {o = o} {v = v} k) f g = ap (λ (x : Mail). mailStep c m x (written o v)) is ∙ goes-on c m bs (q .run) o v f ∙ sym is
+      by (responds {run = n} {a = a} i) f g = absurd (true≢false (sym (accepts-fitting n a i) ∙ g))
+
+answered-after : (c : ℕ) (m : Model) (q : Mail) (s : State) (bs : List ℕ) → Kept c m q s → Placed (s .device) → q .box ≡ executing bs → (cs : List Call) → Undisturbed c (q .run) m s cs
+    → (a : List ℕ) → 10 ≤ length a → length a ≤ c → refusalOf (respond (q .run) a) (after s cs) ≡ accepted
+unfolding after Undisturbed
+answered-after c m q s bs h p e [] u a l g =
+    works s h p .refusals (respond (q .run) a)
+    ∙ rw (h .boxed .phase, e, h .boxed .number, eq-eqb (q .run) (q .run) refl, le-leb 10 (length a) l, le-leb (length a) c g) refl
+answered-after c m q s bs h p e (k ∷ ks) u a l g =
+    let i : mailStep c m q (entryOf k (refusalOf k s)) ≡ q = run-stays s h bs e k (u .0) (u .1) in
+    let h′ : Kept c (step m (happens k s)) q (left k s) = rw i at (one-kept c m q s h k) in
+    answered-after c (step m (happens k s)) q (left k s) bs h′ (one-placed (call-case k s) (book-fits s h p .opened) p) e ks (u .2) a l g
+
+-- ---- the claim
+
+module _ {c : ℕ} {m : Model} {q : Mail} (s : State) (h : Kept c m q s) (p : Placed (s .device)) where
+  -- a bus cycle of the five pages is refused as nothing but 7
+  bus-zero : (o : ℕ) → o ≤ 0x4fff → busRefusalOf (s .device) (s .writeFifo) (s .readFifo) o ≡ accepted
+  bus-zero o l = bus-value s h p o ∙ rw (le-leb o 0x4fff l) refl
+
+  -- who is active in the book holds the record
+  holds-is : (o : ℕ) {u : Bool} → isActive (m .active) (o / 0x1000) ≡ u → holds (owner (s .device)) (pageAt o) ≡ u
+  holds-is o e = sym (active-same o (h .book)) ∙ e
+
+  read-byte : (o : ℕ) → o ≤ 0x4fff → isFifo o ≡ true → isActive (m .active) (o / 0x1000) ≡ true → (a : List ℕ) (k : ℕ) → q .box ≡ answering a k → k < length a
+      → called (read o) s .answer ≡ record { refusal = 0; value = byte (getD a k 0) }
+  read-byte o l i e a k b g = by (read-case (s .device) (s .writeFifo) (s .readFifo) o)
+    where
+      next : fifoByte (s .device .phase) (s .readFifo) ≡ getD a k 0
+      next = rw (h .boxed .phase, h .boxed .readFifo, b, lt-ltb k (length a) g) (byte-padded c a k)
+
+      by : {u : ReadOutcome} → ReadCase (s .device) (s .writeFifo) (s .readFifo) o u → call.reads u s .answer ≡ record { refusal = 0; value = byte (getD a k 0) }
+      by (bus.refused x f) = absurd (f (x ∙ bus-zero o l))
+      by (bus.stays x j y) = absurd (true≢false (sym i ∙ j))
+      by (bus.moves x j y) = rw next refl
+      by (bus.misses x j y) = absurd (true≢false (sym (holds-is o e) ∙ y))
+
+  read-other : (o : ℕ) → o ≤ 0x4fff → isFifo o ≡ true → isActive (m .active) (o / 0x1000) ≡ false → called (read o) s ≡ gives 0 (byte 0xff) s
+  read-other o l i e = by (read-case (s .device) (s .writeFifo) (s .readFifo) o)
+    where
+      by : {u : ReadOutcome} → ReadCase (s .device) (s .writeFifo) (s .readFifo) o u → call.reads u s ≡ gives 0 (byte 0xff) s
+      by (bus.refused x f) = absurd (f (x ∙ bus-zero o l))
+      by (bus.stays x j y) = absurd (true≢false (sym i ∙ j))
+      by (bus.moves x j y) = absurd (true≢false (sym y ∙ holds-is o e))
+      by (bus.misses x j y) = refl
+
+  -- a page whose writes are hash data or ignored is 4's, and 4 is active
+  not-hash-page : (o : ℕ) → isActive (m .active) (o / 0x1000) ≡ false → hashPage o (s .device .launch .sequence) ≡ true → ⊥
+  not-hash-page o e g =
+      let i : m .active ≡ held 4 = h .sound .openHeldBy4 (h .book .sequenceOpen ∙ sequence-then o (s .device .launch .sequence) g) in
+      let j : 4 ≡ o / 0x1000 = sym (eqb-true (o / 0x1000) 4 (both-true (s .device .launch .sequence) (eqb (o / 0x1000) 4) g .1)) in
+      true≢false (sym (rw i (eq-eqb 4 (o / 0x1000) j)) ∙ e)
+
+  neither-of : (o : ℕ) → Elsewhere o → (isSts o || isFifo o) ≡ true → ⊥
+  neither-of o x e = true≢false (sym (rw (x .noSts, x .noFifo) at e))
+
+  write-other : (o v : ℕ) → o ≤ 0x4fff → (isSts o || isFifo o) ≡ true → isActive (m .active) (o / 0x1000) ≡ false → called (write o v) s ≡ gives 0 nothing s
+  write-other o v l i e = by (write-case (s .device) (s .writeFifo) (s .readFifo) o v)
+    where
+      on : {d : Device} {w r : List ℕ} → Writes (s .device) (s .writeFifo) (s .readFifo) o v d w r → gives 0 nothing (state d w r) ≡ gives 0 nothing s
+      on (starts j k) = absurd (neither-of o (at-hash-start o j) i)
+      on (ends j k z) = absurd (neither-of o (at-hash-end o k) i)
+      on (joins u g j k) = absurd (not-hash-page o e g)
+      on (ignores j) = refl
+      on (aborts k u g j z) = absurd (neither-of o (at-access o j) i)
+      on (keeps k u g j z) = absurd (neither-of o (at-access o j) i)
+      on (sets u g n j k z) = absurd (true≢false (sym j ∙ holds-is o e))
+      on (commands u g n j k z y) = absurd (true≢false (sym j ∙ holds-is o e))
+
+      by : {u : Result} → WriteCase (s .device) (s .writeFifo) (s .readFifo) o v u → changes u ≡ gives 0 nothing s
+      by (bus.refused x f) = absurd (f (x ∙ bus-zero o l))
+      by (bus.overlong x g j k) = absurd (not-hash-page o e g)
+      by (bus.accepts x k) = on k
+
+  shown : (t : Trail) (bs : List ℕ) → q .box ≡ executing bs → Taken bs (t .sent) → called window s .answer ≡ record { refusal = 0; value = bytes (take (sizeOf (t .sent)) (t .sent)) }
+  shown t bs e k = by (window-case (s .device) (s .writeFifo) (s .readFifo)) z
+    where
+      z : lentRefusalOf (s .device) (s .writeFifo) (s .readFifo) ≡ accepted
+      z = works s h p .refusals window
+
+      command : shownBy (query.spanIn (s .device .phase)) (s .writeFifo) (s .readFifo) ≡ take (sizeOf (t .sent)) (t .sent)
+      command = rw (h .boxed .phase, h .boxed .writeFifo, e) (let n : length bs - 0 ≡ length bs = omega arith in rw n (take-append-seam bs (replicate (c - length bs) 0) ∙ k .command))
+
+      by : {n : ℕ} {x : Span} → WindowCase (s .device) (s .writeFifo) (s .readFifo) n x → n ≡ accepted
+          → _≡_ {A = Answer} (record { refusal = n; value = bytes (shownBy x (s .writeFifo) (s .readFifo)) }) (record { refusal = 0; value = bytes (take (sizeOf (t .sent)) (t .sent)) })
+      by (asking.refused f) z = absurd (f z)
+      by (asking.shows g) z = rw (z, command) refl
+
+  proof : (t : Trail) → Told c m (q .box) t → Owned c m q t s
+  proof t d = record {
+    shows = λ bs e. shown t bs e ((rw e at d) .0);
+    runs = λ bs e. (rw e at d) .1;
+    has = λ a k e. rw e at d;
+    accepts = accepts-it;
+    reads = read-byte;
+    others = read-other;
+    traceless = write-other;
+    answered = λ bs e cs u a l g. answered-after c m q s bs h p e cs u a l g;
+  }
+    where
+      accepts-it : (n : ℕ) (a : List ℕ) → refusalOf (respond n a) s ≡ accepted → (bs : List ℕ) × (q .box ≡ executing bs) × (q .run ≡ n)
+      accepts-it n a z = by (respond-case (s .device) (s .writeFifo) (s .readFifo) n a) z
+        where
+          by : {u : Result} → RespondCase (s .device) (s .writeFifo) (s .readFifo) n a u → u .refusal ≡ accepted → (bs : List ℕ) × (q .box ≡ executing bs) × (q .run ≡ n)
+          by (engine.refused e f) z = absurd (f z)
+          by (engine.completes e) z = accepted-run s h n a e
+
+pub owned : OwnedClaim
+unfolding heard after mailFrom trailFrom modelAfter run events
+owned s e i cs z =
+    let u : State = left (powerOn e i) s in
+    let c : ℕ = length (s .writeFifo) in
+    let k : _ = first-kept s e i z in
+    proof (after u cs) (all-kept c fresh (mail idle 0) u cs k) (all-placed c fresh (mail idle 0) u cs k (power-placed (power-case e i (s .writeFifo) (s .readFifo))))
+    (trailFrom c fresh (mail idle 0) (trail [] 0) (heard u cs)) (all-told c fresh (mail idle 0) (trail [] 0) u cs k tt)

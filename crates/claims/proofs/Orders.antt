@@ -1,0 +1,183 @@
+-- What a command bit or a byte for the FIFO makes of phase, run number and FIFOs is what it makes of the mailbox. Assumes nothing.
+use mathlib.Core.Path.{_≡_, refl, sym, ap, _∙_}
+use mathlib.Core.Bool.{Bool, true, false, cond, _&&_, _||_, true≢false}
+use mathlib.Core.List.{List, [], _∷_, _++_}
+use Prim.Native.Nat.{ℕ, _+_, _%_, _^_, _≤_, _<_}
+use native.Mathlib.Omega.{arith}
+use lib.ListN.{length, length-append}
+use lib.Dec.{eqb, leb, ltb}
+use borrow.Author.Tests.{ltb-true, ltb-false, leb-true}
+use Rattle.bits.specs.Bits.{bit}
+use Rattle.record.specs.declared.Phase.{Phase}
+use Rattle.record.specs.declared.Phase.the-variants.{Idle, Reception, Execution}
+use Rattle.record_shape.proofs.Clauses.{both-true}
+use Rattle.reg_fifo.specs.Fifo.{updateWriteFifo, updateReadFifo}
+use Rattle.reg_fifo.specs.declared.FifoAction.the-variants.{Keep, Clear, Store}
+use Rattle.reg_sts_read.specs.Size.{declaredSize}
+use Rattle.reg_sts_write.specs.Completion.{withoutCause, ignored, enterCompletion, badSize}
+use Rattle.reg_sts_write.specs.Sts.{stsCommand, commandReady, nextRun, tpmGoAfter, tpmGo, responseRetry, commandedBy, storeAfter, writeDataFifo}
+use Rattle.reg_sts_write.specs.declared.Commanded.{Commanded}
+use Rattle.reg_sts_write.specs.declared.sts.StsCommand.the-variants.{Nothing, CommandReady, TpmGo, ResponseRetry}
+use Rattle.claims.specs.Mailbox.{Mailbox, idle, ready, receiving, executing, answering, Mail, mail, sizeOf, moreExpected, readied, badSizeAnswer, going, gone, retried, ordered, stored, phaseOf, commandOf, answerOf, padded}
+use Rattle.claims.proofs.Padded.{length-padded, clear-padded, put-padded, set-padded, size-padded}
+
+-- ---- what fits FIFOs of c bytes
+
+abbrev pub Fits : ℕ → Mailbox → Type 0
+Fits c idle = Unit {0}
+Fits c ready = Unit {0}
+Fits c (receiving bs) = (1 ≤ length bs) × (length bs ≤ c)
+Fits c (executing bs) = (10 ≤ length bs) × (length bs ≤ c)
+Fits c (answering a k) = (10 ≤ length a) × (length a ≤ c) × (k ≤ length a)
+
+pub command-fits : (c : ℕ) (b : Mailbox) → Fits c b → length (commandOf b) ≤ c
+command-fits c idle f = omega arith
+command-fits c ready f = omega arith
+command-fits c (receiving bs) f = f .1
+command-fits c (executing bs) f = f .1
+command-fits c (answering a k) f = omega arith
+
+pub answer-fits : (c : ℕ) (b : Mailbox) → Fits c b → length (answerOf b) ≤ c
+answer-fits c idle f = omega arith
+answer-fits c ready f = omega arith
+answer-fits c (receiving bs) f = omega arith
+answer-fits c (executing bs) f = omega arith
+answer-fits c (answering a k) f = f .1
+
+-- phase p, run number n and FIFOs w and r are the mailbox's
+pub record Boxed (c : ℕ) (q : Mail) (p : Phase) (n : ℕ) (w r : List ℕ) : Type 0 where
+  pub phase : p ≡ phaseOf (q .box)
+  pub number : n ≡ q .run
+  pub writeFifo : w ≡ padded c (commandOf (q .box))
+  pub readFifo : r ≡ padded c (answerOf (q .box))
+  pub fits : Fits c (q .box)
+
+-- ---- by number
+
+-- a command that may go has its declared size
+pub enough : (n s c : ℕ) → (ltb n 6 || ltb n s && ltb n c) ≡ false → (leb 10 s && leb s c) ≡ true → 10 ≤ n
+enough n s c e f = by (ltb n s) refl (ltb n c) refl (neither (ltb n 6) (ltb n s && ltb n c) e)
+  where
+    neither : (a b : Bool) → (a || b) ≡ false → b ≡ false
+    neither true b e = absurd (true≢false e)
+    neither false b e = e
+
+    s10 : 10 ≤ s
+    s10 = leb-true 10 s (both-true (leb 10 s) (leb s c) f .0)
+
+    sc : s ≤ c
+    sc = leb-true s c (both-true (leb 10 s) (leb s c) f .1)
+
+    by : (t : Bool) → ltb n s ≡ t → (u : Bool) → ltb n c ≡ u → (ltb n s && ltb n c) ≡ false → 10 ≤ n
+    by true i true j k = absurd (true≢false (sym (rw (i, j) refl) ∙ k))
+    by true i false j k = omega (arith, s10, sc, ltb-false n c j)
+    by false i u j k = omega (arith, s10, ltb-false n s i)
+
+-- one more byte fits where more is expected
+room : (n s c : ℕ) → 1024 ≤ c → (ltb n 6 || ltb n s && ltb n c) ≡ true → n < c
+room n s c l e = by (ltb n 6) refl e
+  where
+    by : (t : Bool) → ltb n 6 ≡ t → (t || ltb n s && ltb n c) ≡ true → n < c
+    by true i q = omega (arith, ltb-true n 6 i)
+    by false i q = ltb-true n c (both-true (ltb n s) (ltb n c) q .1)
+
+-- ---- each order
+
+module _ (c : ℕ) (l : 1024 ≤ c) where
+  -- what a command, given box b and byte v, leaves is q
+  abbrev Leaves : Mail → Commanded → ℕ → Mailbox → Type 0
+  Leaves q k v b = Boxed c q (k .phase) (k .run) (updateWriteFifo (k .fifos) v (padded c (commandOf b))) (updateReadFifo (k .fifos) badSize (padded c (answerOf b)))
+
+  keeps : (b : Mailbox) (n v : ℕ) → Fits c b → Leaves (mail b n) (ignored (phaseOf b) n) v b
+  keeps b n v f = record { phase = refl; number = refl; writeFifo = refl; readFifo = refl; fits = f }
+
+  cleared : (b : Mailbox) (n v : ℕ) → Fits c b → Boxed c (mail idle n) Idle n (updateWriteFifo Clear v (padded c (commandOf b))) (updateReadFifo Clear badSize (padded c (answerOf b)))
+  cleared b n v f = record {
+    phase = refl;
+    number = refl;
+    writeFifo = clear-padded c (commandOf b) (command-fits c b f);
+    readFifo = clear-padded c (answerOf b) (answer-fits c b f);
+    fits = tt;
+  }
+
+  ready-leaves : (b : Mailbox) (n v : ℕ) → Fits c b → Leaves (mail (readied b) n) (commandReady (phaseOf b) n) v b
+  ready-leaves idle n v f = record { phase = refl; number = refl; writeFifo = refl; readFifo = refl; fits = tt }
+  ready-leaves ready n v f = keeps ready n v f
+  ready-leaves (receiving bs) n v f = cleared (receiving bs) n v f
+  ready-leaves (executing bs) n v f = cleared (executing bs) n v f
+  ready-leaves (answering a k) n v f = cleared (answering a k) n v f
+
+  going-leaves : (bs : List ℕ) (n v s k : ℕ) → s ≡ sizeOf bs → k ≡ c → Fits c (receiving bs) → Leaves (going c bs n) (tpmGoAfter (length bs) n s k) v (receiving bs)
+  going-leaves bs n v s k i j f = rw (i, j) (by (moreExpected c bs) refl (leb 10 (sizeOf bs) && leb (sizeOf bs) c) refl)
+    where
+      by : (t : Bool) → moreExpected c bs ≡ t → (u : Bool) → (leb 10 (sizeOf bs) && leb (sizeOf bs) c) ≡ u
+          → Leaves (cond t (mail (receiving bs) n) (cond u (mail (executing bs) ((n + 1) % 2 ^ 32)) (mail (answering badSizeAnswer 0) n)))
+          (cond t (ignored (Reception (length bs)) n) (cond u (withoutCause (Execution (length bs)) (nextRun n) Keep) (enterCompletion (length badSize) n))) v (receiving bs)
+      by true e u g = keeps (receiving bs) n v f
+      by false e true g = record { phase = refl; number = refl; writeFifo = refl; readFifo = refl; fits = (enough (length bs) (sizeOf bs) c e g, f .1) }
+      by false e false g = record {
+        phase = refl;
+        number = refl;
+        writeFifo = clear-padded c bs (f .1);
+        readFifo = put-padded c badSize [] (omega arith);
+        fits = (omega arith, omega arith, omega arith);
+      }
+
+  abbrev sizeIn : Mailbox → ℕ
+  sizeIn b = declaredSize (padded c (commandOf b))
+
+  abbrev lengthIn : Mailbox → ℕ
+  lengthIn b = length (padded c (commandOf b))
+
+  go-leaves : (b : Mailbox) (n v : ℕ) → Fits c b → Leaves (gone c b n) (tpmGo (phaseOf b) n (sizeIn b) (lengthIn b)) v b
+  go-leaves idle n v f = keeps idle n v f
+  go-leaves ready n v f = keeps ready n v f
+  go-leaves (receiving bs) n v f = going-leaves bs n v _ _ (size-padded c bs) (length-padded c bs (f .1)) f
+  go-leaves (executing bs) n v f = keeps (executing bs) n v f
+  go-leaves (answering a k) n v f = keeps (answering a k) n v f
+
+  retry-leaves : (b : Mailbox) (n v : ℕ) → Fits c b → Leaves (mail (retried b) n) (responseRetry (phaseOf b) n) v b
+  retry-leaves idle n v f = keeps idle n v f
+  retry-leaves ready n v f = keeps ready n v f
+  retry-leaves (receiving bs) n v f = keeps (receiving bs) n v f
+  retry-leaves (executing bs) n v f = keeps (executing bs) n v f
+  retry-leaves (answering a k) n v f = record { phase = refl; number = refl; writeFifo = refl; readFifo = refl; fits = (f .0, f .1, omega arith) }
+
+  -- a byte at STS
+  pub order-leaves : (b : Mailbox) (n v : ℕ) → Fits c b → Leaves (ordered c v (mail b n)) (commandedBy (stsCommand v) (phaseOf b) n (sizeIn b) (lengthIn b)) v b
+  unfolding stsCommand
+  order-leaves b n v f = by (eqb (bit 6 v + bit 5 v + bit 1 v) 1) (eqb (bit 6 v) 1) (eqb (bit 5 v) 1)
+    where
+      by : (t₁ t₂ t₃ : Bool)
+          → Leaves (cond t₁ (cond t₂ (mail (readied b) n) (cond t₃ (gone c b n) (mail (retried b) n))) (mail b n))
+          (commandedBy (cond t₁ (cond t₂ CommandReady (cond t₃ TpmGo ResponseRetry)) Nothing) (phaseOf b) n (sizeIn b) (lengthIn b)) v b
+      by true true t₃ = ready-leaves b n v f
+      by true false true = go-leaves b n v f
+      by true false false = retry-leaves b n v f
+      by false t₂ t₃ = keeps b n v f
+
+  storing-leaves : (bs : List ℕ) (n v s k : ℕ) → s ≡ sizeOf bs → k ≡ c → Fits c (receiving bs)
+      → Leaves (mail (stored c v (receiving bs)) n) (storeAfter (length bs) n s k) v (receiving bs)
+  storing-leaves bs n v s k i j f = rw (i, j) (by (moreExpected c bs) refl)
+    where
+      longer : length (bs ++ (v ∷ [])) ≡ length bs + 1
+      longer = simp length-append (omega arith)
+
+      by : (t : Bool) → moreExpected c bs ≡ t
+          → Leaves (mail (cond t (receiving (bs ++ (v ∷ []))) (receiving bs)) n) (cond t (withoutCause (Reception (length bs + 1)) n (Store (length bs))) (ignored (Reception (length bs)) n)) v (receiving bs)
+      by true e = record {
+        phase = ap Reception (sym longer);
+        number = refl;
+        writeFifo = set-padded c bs v (room (length bs) (sizeOf bs) c l e);
+        readFifo = refl;
+        fits = (omega (arith, longer), omega (arith, longer, room (length bs) (sizeOf bs) c l e));
+      }
+      by false e = keeps (receiving bs) n v f
+
+  -- a byte at the FIFO
+  pub store-leaves : (b : Mailbox) (n v : ℕ) → Fits c b → Leaves (mail (stored c v b) n) (writeDataFifo (phaseOf b) n (sizeIn b) (lengthIn b)) v b
+  store-leaves idle n v f = keeps idle n v f
+  store-leaves ready n v f = record { phase = refl; number = refl; writeFifo = set-padded c [] v (omega arith); readFifo = refl; fits = (omega arith, omega arith) }
+  store-leaves (receiving bs) n v f = storing-leaves bs n v _ _ (size-padded c bs) (length-padded c bs (f .1)) f
+  store-leaves (executing bs) n v f = keeps (executing bs) n v f
+  store-leaves (answering a k) n v f = keeps (answering a k) n v f
