@@ -2,18 +2,20 @@
 use mathlib.Core.Path.{_≡_, refl}
 use mathlib.Core.Bool.{false}
 use mathlib.Core.List.{List, [], _∷_, _++_}
-use Prim.Native.Nat.{ℕ}
-use lib.ListN.{replicate}
+use Prim.Native.Nat.{ℕ, _-_}
+use lib.ListN.{length, replicate}
 use Rattle.arbiter.specs.State.{locality, withActive, freshArbiter}
-use Rattle.arbiter.specs.Rules.{accessCommand, request, release, seize, writeAccess, handover}
+use Rattle.arbiter.specs.Rules.{accessCommand, request, release, seize, clearSeized, writeAccess, handover}
 use Rattle.arbiter.specs.declared.Owner.the-variants.{Held}
 use Rattle.pcr.specs.Bank as bank
 use Rattle.record.specs.Record.{noCauses, closedLaunch, freshDevice, withParts}
 use Rattle.record.specs.declared.Device.{Device}
-use Rattle.record.specs.declared.Phase.the-variants.{Reception}
+use Rattle.record.specs.declared.Phase.{Phase}
+use Rattle.record.specs.declared.Phase.the-variants.{Reception, Execution}
 use Rattle.record_shape.specs.Shape.{lengthsAllowed, inShape}
 use Rattle.reg_map.specs.Map.{registerAt}
 use Rattle.reg_access.specs.Access.{accessBits}
+use Rattle.reg_interrupts.specs.Interrupts.{enableByte, statusByte, writeEnable, writeStatus}
 use Rattle.reg_sts_read.specs.Size.{declaredSize}
 use Rattle.reg_sts_read.specs.Status.{stsLow, stsByte}
 use Rattle.reg_sts_write.specs.Sts.{stsCommand, commandReadyCause, writeSts}
@@ -22,12 +24,17 @@ use Rattle.bus_resolve.specs.Resolve.{resolve}
 use Rattle.bus_write.specs.Effect.{applyChange, applyCommand}
 use Rattle.bus_write.specs.Writing.{registerWrite, writeEffect}
 use Rattle.launch.specs.Launch.{launchAfter, pcrsAfter}
-use Rattle.call_admission.specs.Refusals.{busRefusal, lentRefusal}
+use Rattle.call_admission.specs.Refusals.{busRefusal, lentRefusal, answerRefusal}
+use Rattle.call_power.specs.Power as power
 use Rattle.call_power.specs.Power.{powerOn}
+use Rattle.call_respond.specs.Respond as engine
+use Rattle.call_respond.specs.Respond.{answerCycle, acceptedAnswer}
+use Rattle.call_query.specs.Query.{windowSpan}
 use Rattle.call_bus.specs.Bus as bus
 use Rattle.call_bus.specs.Bus.{read, readCycle, acceptedRead, writeCycle, acceptedWrite}
-use Rattle.claims.specs.Calls.{State, state}
-use Rattle.conformance_claim.specs.Sheet.{Line, write, ignored, reads, refused, run, Check, fresh, afterRead, afterWrite, checks, gots, wants, Holds, head, free, send, complete, runs, p1, p2, p3, p4, p5, p6, p7, p8, p9, p10, p10′, p11, p12, Each, SheetHolds}
+use Rattle.claims.specs.Calls as call
+use Rattle.claims.specs.Calls.{State, state, left}
+use Rattle.conformance_claim.specs.Sheet.{Line, write, ignored, reads, refused, run, answer, reset, shows, Check, fresh, afterRead, afterWrite, checks, gots, wants, Holds, head, free, send, receive, complete, runs, p1, p2, p3, p4, p5, p6, p7, p8, p9, p10, p10′, p11, p12, seizures, marks, established, interrupts, onlookers, engineAnswers, allWait, highBytes, Each, SheetHolds}
 
 -- ---- lines played in two parts
 
@@ -39,6 +46,9 @@ played s (ignored o v ∷ l) = played (afterWrite s o v) l
 played s (reads o v ∷ l) = played (afterRead s o) l
 played s (refused o n ∷ l) = played (afterWrite (afterRead s o) o 0x00) l
 played s (run n ∷ l) = played s l
+played s (answer n k a ∷ l) = played (left (call.respond k a) s) l
+played s (reset ∷ l) = played (left call.reset s) l
+played s (shows b ∷ l) = played s l
 
 checks-on : (s : State) (l m : List Line) → checks s (l ++ m) ≡ checks s l ++ checks (played s l) m
 unfolding checks played
@@ -48,6 +58,9 @@ checks-on s (ignored o v ∷ l) m = rw (checks-on (afterWrite s o v) l m) refl
 checks-on s (reads o v ∷ l) m = rw (checks-on (afterRead s o) l m) refl
 checks-on s (refused o n ∷ l) m = rw (checks-on (afterWrite (afterRead s o) o 0x00) l m) refl
 checks-on s (run n ∷ l) m = rw (checks-on s l m) refl
+checks-on s (answer n k a ∷ l) m = rw (checks-on (left (call.respond k a) s) l m) refl
+checks-on s (reset ∷ l) m = rw (checks-on (left call.reset s) l m) refl
+checks-on s (shows b ∷ l) m = rw (checks-on s l m) refl
 
 gots-on : (a b : List Check) → gots (a ++ b) ≡ gots a ++ gots b
 gots-on [] b = refl
@@ -63,7 +76,7 @@ holds-on s t l m h e k = rw (checks-on s l m, gots-on, wants-on, e, h, k) refl
 
 -- the definitions of the calls: to unfold this is to unfold them
 unfoldable calls : Unit {0}
-unfolding powerOn read readCycle acceptedRead busRefusal lentRefusal freshDevice lengthsAllowed inShape registerAt accessBits registerRead bus.write writeCycle acceptedWrite resolve registerWrite writeEffect applyChange applyCommand launchAfter pcrsAfter accessCommand request release seize writeAccess handover declaredSize stsLow stsByte stsCommand writeSts
+unfolding powerOn read readCycle acceptedRead busRefusal lentRefusal freshDevice lengthsAllowed inShape registerAt accessBits registerRead bus.write writeCycle acceptedWrite resolve registerWrite writeEffect applyChange applyCommand launchAfter pcrsAfter accessCommand request release seize writeAccess handover declaredSize stsLow stsByte stsCommand writeSts power.reset engine.respond answerCycle acceptedAnswer answerRefusal windowSpan writeEnable writeStatus enableByte statusByte clearSeized
 calls = tt
 
 -- by computation
@@ -84,19 +97,28 @@ unfolding checks calls
 last-two d = (refl, (refl, tt))
 
 -- P8 by parts, since each `ignored` compares all that a call leaves with all that it was handed. Between the parts 0 is active and n bytes
--- are received: the head, and 00h behind it
-abbrev receiving : ℕ → State
-receiving n =
+-- are received, b
+abbrev commanded : ℕ → Phase → List ℕ → State
+commanded n p b =
     state
     (withParts (freshDevice false (replicate 5 0) 0)
     (record {
       arbiter = withActive freshArbiter (Held (locality 0));
       interrupts = record { global = false; enable = noCauses; status = commandReadyCause };
       established = false;
-      run = 0;
+      run = n;
     })
-    (Reception n) closedLaunch bank.fresh)
-    (head 0x00 0x0a ++ free 1018) (replicate 1024 0)
+    p closedLaunch bank.fresh)
+    (b ++ replicate (1024 - length b) 0) (replicate 1024 0)
+
+abbrev six : State
+six = commanded 0 (Reception 6) (head 0x00 0x0a)
+
+abbrev ten : State
+ten = commanded 0 (Reception 10) (head 0x00 0x0a ++ free 6 4)
+
+abbrev running : State
+running = commanded 1 (Execution 10) (head 0x00 0x0a ++ free 6 4)
 
 abbrev firstPart : List Line
 firstPart = p7 ++ send (head 0x00 0x0a) ++ (reads 0x0018 0x88 ∷ [])
@@ -105,18 +127,45 @@ abbrev secondPart : List Line
 secondPart = (ignored 0x0018 0x20 ∷ []) ++ complete 3
 
 abbrev thirdPart : List Line
-thirdPart = (ignored 0x0024 0xff ∷ []) ++ runs 1
+thirdPart = (ignored 0x0024 0xff ∷ []) ++ runs 1 (head 0x00 0x0a ++ free 6 4)
 
 -- the parts hold, and the first two leave this
-parts-of-8 : (d : Device) → Holds (fresh d) firstPart × (played (fresh d) firstPart ≡ receiving 6) × Holds (receiving 6) secondPart × (played (receiving 6) secondPart ≡ receiving 10) × Holds (receiving 10) thirdPart
+parts-of-8 : (d : Device) → Holds (fresh d) firstPart × (played (fresh d) firstPart ≡ six) × Holds six secondPart × (played six secondPart ≡ ten) × Holds ten thirdPart
 unfolding checks calls played
 parts-of-8 d = (refl, refl, refl, refl, refl)
 
 p8-holds : (d : Device) → Holds (fresh d) p8
 p8-holds d =
     let h : _ = parts-of-8 d in
-    holds-on (fresh d) (receiving 6) firstPart (secondPart ++ thirdPart) (h .0) (h .1)
-    (holds-on (receiving 6) (receiving 10) secondPart thirdPart (h .2) (h .3) (h .4))
+    holds-on (fresh d) six firstPart (secondPart ++ thirdPart) (h .0) (h .1)
+    (holds-on six ten secondPart thirdPart (h .2) (h .3) (h .4))
+
+-- what P8 leaves runs, and is answered
+abbrev fourthPart : List Line
+fourthPart =
+    (answer 4 1 (free 0 9) ∷ answer 4 1 (free 0 1025) ∷ answer 3 0 (free 0 10) ∷ answer 3 2 (free 0 10) ∷ reads 0x0018 0x80
+    ∷ answer 0 1 (free 240 10) ∷ answer 3 1 (free 0 10) ∷ reads 0x0018 0x90 ∷ shows (free 240 10) ∷ [])
+    ++ receive (free 240 10) ++ (reads 0x0024 0xff ∷ shows [] ∷ [])
+
+runs-on : (played ten thirdPart ≡ running) × Holds running fourthPart
+unfolding checks calls played
+runs-on = (refl, refl)
+
+engine-holds : (d : Device) → Holds (fresh d) engineAnswers
+engine-holds d =
+    let h : _ = parts-of-8 d in
+    holds-on (fresh d) six firstPart (secondPart ++ thirdPart ++ fourthPart) (h .0) (h .1)
+    (holds-on six ten secondPart (thirdPart ++ fourthPart) (h .2) (h .3)
+    (holds-on ten running thirdPart fourthPart (h .4) (runs-on .0) (runs-on .1)))
+
+-- the further entries
+further : (d : Device) → Each (fresh d) (seizures ∷ marks ∷ established ∷ interrupts ∷ onlookers ∷ [])
+unfolding checks calls
+further d = (refl, (refl, (refl, (refl, (refl, tt)))))
+
+served-down : (d : Device) → Each (fresh d) (allWait ∷ highBytes ∷ [])
+unfolding checks calls
+served-down d = (refl, (refl, tt))
 
 -- ---- the claim
 
@@ -127,5 +176,11 @@ each-on s (e ∷ a) b h k = (h .0, each-on s a b (h .1) k)
 pub sheet-holds : SheetHolds
 sheet-holds d =
     let s : State = fresh d in
-    each-on s (p1 ∷ p2 ∷ p3 ∷ p4 ∷ p5 ∷ p6 ∷ p7 ∷ []) (p8 ∷ p9 ∷ p10 ∷ p10′ ∷ p11 ∷ p12 ∷ []) (before-8 d)
-    (p8-holds d, each-on s (p9 ∷ p10 ∷ []) (p10′ ∷ p11 ∷ p12 ∷ []) (after-8 d) (each-on s (p10′ ∷ []) (p11 ∷ p12 ∷ []) (after-10 d) (last-two d)))
+    let ours : List (List Line) = engineAnswers ∷ allWait ∷ highBytes ∷ [] in
+    let others : List (List Line) = seizures ∷ marks ∷ established ∷ interrupts ∷ onlookers ∷ ours in
+    let fromEleven : List (List Line) = p11 ∷ p12 ∷ others in
+    each-on s (p1 ∷ p2 ∷ p3 ∷ p4 ∷ p5 ∷ p6 ∷ p7 ∷ []) (p8 ∷ p9 ∷ p10 ∷ p10′ ∷ fromEleven) (before-8 d) (
+      p8-holds d,
+      each-on s (p9 ∷ p10 ∷ []) (p10′ ∷ fromEleven) (after-8 d) (each-on s (p10′ ∷ []) fromEleven (after-10 d) (each-on s (p11 ∷ p12 ∷ []) others (last-two d)
+          (each-on s (seizures ∷ marks ∷ established ∷ interrupts ∷ onlookers ∷ []) ours (further d) (engine-holds d, served-down d)))),
+    )

@@ -1,13 +1,13 @@
 -- The bench sheet (document 01, 'Bench sheet (C = 1,024, not established)'): P1 to P12, each a list of calls from a fresh power-on,
--- with what each of them has to give. Its numerals are the paper's. Assumes nothing.
-use Prim.Native.Nat.{ℕ}
+-- with what each of them has to give, and further entries of our own. Its numerals are the paper's. Assumes nothing.
+use Prim.Native.Nat.{ℕ, zero, suc, _+_, _%_}
 use mathlib.Core.Path.{_≡_}
 use mathlib.Core.Bool.{false}
 use mathlib.Core.List.{List, [], _∷_, _++_}
-use lib.ListN.{replicate}
+use lib.ListN.{drop, replicate}
 use Rattle.record.specs.declared.Device.{Device}
 use Rattle.claims.specs.Calls as call
-use Rattle.claims.specs.Calls.{State, state, Value, byte, nothing, Answer, called, left}
+use Rattle.claims.specs.Calls.{State, state, Value, byte, bytes, nothing, Answer, called, left}
 
 -- ---- what a line of the sheet says
 
@@ -18,10 +18,16 @@ pub data Line : Type 0 where
   ignored : ℕ → ℕ → Line
   -- offset, byte: the read is accepted and gives the byte
   reads : ℕ → ℕ → Line
-  -- offset, number: a read and a write of 00h are refused with the number
+  -- offset, number: a read and a write of 00h are refused with the number, and change nothing
   refused : ℕ → ℕ → Line
   -- the record's run number
   run : ℕ → Line
+  -- number, run number, bytes: an engine's answer gets the refusal number
+  answer : ℕ → ℕ → List ℕ → Line
+  -- a reset is accepted
+  reset : Line
+  -- the window shows these bytes
+  shows : List ℕ → Line
 
 -- ---- how the lines are played: each call is handed what the last one left
 
@@ -68,9 +74,14 @@ checks s (ignored o v ∷ l) = answers (called (call.write o v) s .answer) accep
 checks s (reads o v ∷ l) = answers (called (call.read o) s .answer) accepted (byte v) ∷ checks (afterRead s o) l
 checks s (refused o n ∷ l) =
     answers (called (call.read o) s .answer) n (byte 0xff)
+    ∷ unchanged (afterRead s o) s
     ∷ answers (called (call.write o 0x00) (afterRead s o) .answer) n nothing
+    ∷ unchanged (afterWrite (afterRead s o) o 0x00) s
     ∷ checks (afterWrite (afterRead s o) o 0x00) l
 checks s (run n ∷ l) = numbered (s .device .control .run) n ∷ checks s l
+checks s (answer n k a ∷ l) = answers (called (call.respond k a) s .answer) n nothing ∷ checks (left (call.respond k a) s) l
+checks s (reset ∷ l) = answers (called call.reset s .answer) accepted nothing ∷ checks (left call.reset s) l
+checks s (shows b ∷ l) = answers (called call.window s .answer) accepted (bytes b) ∷ checks s l
 
 abbrev pub gots : List Check → List Seen
 gots [] = []
@@ -114,12 +125,14 @@ p6 = p5 ++ (write 0x4000 0x08 ∷ reads 0x3000 0x95 ∷ [])
 abbrev pub p7 : List Line
 p7 = write 0x0000 0x02 ∷ write 0x0018 0x40 ∷ reads 0x0018 0xc0 ∷ reads 0x0019 0x40 ∷ []
 
--- a command's first six bytes, of which the last two are the low ones of the size; bytes that the sheet leaves free are 00h
+-- a command's first six bytes, of which the last two are the low ones of the size
 abbrev pub head : ℕ → ℕ → List ℕ
 head high low = 0x00 ∷ 0xc1 ∷ 0x00 ∷ 0x00 ∷ high ∷ low ∷ []
 
-abbrev pub free : ℕ → List ℕ
-free n = replicate n 0x00
+-- bytes that the paper leaves free: byte number i is i mod 251, n of them from number i on
+abbrev pub free : ℕ → ℕ → List ℕ
+free i zero = []
+free i (suc n) = i % 251 ∷ free (i + 1) n
 
 -- a FIFO write for each byte, and a FIFO read
 abbrev pub send : List ℕ → List Line
@@ -136,11 +149,11 @@ badSize = 0x00 ∷ 0xc4 ∷ 0x00 ∷ 0x00 ∷ 0x00 ∷ 0x0a ∷ 0x00 ∷ 0x00 �
 
 -- the rest of a command: n free bytes, after which more is expected, and the last one, after which it is not
 abbrev pub complete : ℕ → List Line
-complete n = send (free n) ++ (reads 0x0018 0x88 ∷ []) ++ send (free 1) ++ (reads 0x0018 0x80 ∷ [])
+complete n = send (free 6 n) ++ (reads 0x0018 0x88 ∷ []) ++ send (free (6 + n) 1) ++ (reads 0x0018 0x80 ∷ [])
 
--- go, and the command runs as run n: no answer is there yet
-abbrev pub runs : ℕ → List Line
-runs n = write 0x0018 0x20 ∷ run n ∷ reads 0x0018 0x80 ∷ reads 0x0024 0xff ∷ []
+-- go, and the command b runs as run n: no answer is there yet, and the WriteFIFO has the command
+abbrev pub runs : ℕ → List ℕ → List Line
+runs n b = write 0x0018 0x20 ∷ run n ∷ reads 0x0018 0x80 ∷ reads 0x0024 0xff ∷ shows b ∷ []
 
 -- burstCount, below 256
 abbrev pub burst : ℕ → List Line
@@ -151,7 +164,7 @@ abbrev pub p8 : List Line
 p8 =
     p7
     ++ (send (head 0x00 0x0a) ++ (reads 0x0018 0x88 ∷ ignored 0x0018 0x20 ∷ []) ++ complete 3
-    ++ (ignored 0x0024 0xff ∷ []) ++ runs 1)
+    ++ (ignored 0x0024 0xff ∷ []) ++ runs 1 (head 0x00 0x0a ++ free 6 4))
 
 -- "P9 size 9: nine bytes, go, STS 90h; ten bytes read, then FFh and 80h; retry, 90h."
 abbrev pub p9 : List Line
@@ -162,24 +175,80 @@ p9 =
 
 -- "P10 size 1,024 runs; .."
 abbrev pub p10 : List Line
-p10 = p7 ++ (send (head 0x04 0x00) ++ complete 1017 ++ runs 1)
+p10 = p7 ++ (send (head 0x04 0x00) ++ complete 1017 ++ runs 1 (head 0x04 0x00 ++ free 6 1018))
 
 -- ".. 1,025 is answered 19h after 1,024 bytes."
 abbrev pub p10′ : List Line
-p10′ = p7 ++ (send (head 0x04 0x01) ++ complete 1017 ++ (write 0x0018 0x20 ∷ run 0 ∷ []) ++ receive badSize)
+p10′ = p7 ++ (send (head 0x04 0x01) ++ complete 1017 ++ (write 0x0018 0x20 ∷ run 0 ∷ reads 0x0018 0x90 ∷ []) ++ receive badSize)
 
 -- "P11 size 1,024, burst at 960 received: 64; at 961: 63; at 1,023: 1."
 abbrev pub p11 : List Line
 p11 =
     p7
-    ++ (send (head 0x04 0x00) ++ send (free 954) ++ burst 64 ++ send (free 1) ++ burst 63 ++ send (free 62) ++ burst 1)
+    ++ (send (head 0x04 0x00) ++ send (free 6 954) ++ burst 64 ++ send (free 960 1) ++ burst 63 ++ send (free 961 62) ++ burst 1
+    ++ (shows (head 0x04 0x00 ++ free 6 1017) ∷ []))
 
 -- "P12 4FFFh reads FFh; 5000h is refused, 1."
 abbrev pub p12 : List Line
 p12 = reads 0x4fff 0xff ∷ refused 0x5000 1 ∷ []
 
+-- ---- further entries, our own: what P1 to P12 do not look at
+
+-- a seizure by the active locality, and one by a lower, change nothing
+abbrev pub seizures : List Line
+seizures = write 0x2000 0x02 ∷ ignored 0x2000 0x08 ∷ ignored 0x1000 0x08 ∷ reads 0x2000 0xa1 ∷ []
+
+-- a seizure marks who is seized and sets no localityChange; a handover sets it if somebody waits, and not if nobody does; the mark is cleared by
+-- its locality alone
+abbrev pub marks : List Line
+marks =
+    write 0x0000 0x02 ∷ write 0x2000 0x08 ∷ reads 0x0000 0x91 ∷ reads 0x2000 0xa1 ∷ reads 0x2010 0x00
+    ∷ write 0x1000 0x02 ∷ write 0x2000 0x20 ∷ reads 0x1000 0xa1 ∷ reads 0x1010 0x04 ∷ write 0x1010 0x04 ∷ reads 0x1010 0x00
+    ∷ write 0x1000 0x20 ∷ reads 0x1000 0x81 ∷ reads 0x1010 0x00 ∷ write 0x1000 0x10 ∷ reads 0x0000 0x91 ∷ write 0x0000 0x10 ∷ reads 0x0000 0x81 ∷ []
+
+-- a start that counts sets established, and a reset keeps it
+abbrev pub established : List Line
+established = reads 0x0000 0x81 ∷ write 0x4028 0x00 ∷ reads 0x0000 0x80 ∷ reads 0x4000 0xa0 ∷ write 0x4020 0x00 ∷ reads 0x4000 0x80 ∷ reset ∷ reads 0x0000 0x80 ∷ []
+
+-- only the active locality writes INT_ENABLE and INT_STATUS; every locality reads them
+abbrev pub interrupts : List Line
+interrupts =
+    write 0x1000 0x02 ∷ ignored 0x2008 0xff ∷ write 0x200b 0x80 ∷ reads 0x2008 0x08 ∷ reads 0x200b 0x00 ∷ write 0x1008 0x85 ∷ write 0x100b 0x80
+    ∷ reads 0x1008 0x8d ∷ reads 0x2008 0x8d ∷ reads 0x400b 0x80
+    ∷ write 0x1018 0x40 ∷ reads 0x0010 0x80 ∷ write 0x0010 0x80 ∷ reads 0x1010 0x80 ∷ write 0x1010 0x80 ∷ reads 0x3010 0x00 ∷ []
+
+-- in Completion a locality that is not active reads FFh at STS and FIFO, and moves nothing
+abbrev pub onlookers : List Line
+onlookers =
+    p7
+    ++ (send (head 0x00 0x09) ++ complete 2
+    ++ (write 0x0018 0x20 ∷ reads 0x1018 0xff ∷ reads 0x1024 0xff ∷ reads 0x0024 0x00 ∷ reads 0x0024 0xc4
+    ∷ write 0x1018 0x02 ∷ write 0x2024 0x55 ∷ write 0x4018 0x40 ∷ reads 0x3024 0xff ∷ reads 0x0018 0x90 ∷ [])
+    ++ receive (drop 2 badSize) ++ (reads 0x0018 0x80 ∷ []))
+
+-- an answer of 9 bytes and one of C + 1 are refused, and so is one with another number; one of 10 bytes is accepted and read, and not twice
+abbrev pub engineAnswers : List Line
+engineAnswers =
+    p8
+    ++ (answer 4 1 (free 0 9) ∷ answer 4 1 (free 0 1025) ∷ answer 3 0 (free 0 10) ∷ answer 3 2 (free 0 10) ∷ reads 0x0018 0x80
+    ∷ answer 0 1 (free 240 10) ∷ answer 3 1 (free 0 10) ∷ reads 0x0018 0x90 ∷ shows (free 240 10) ∷ [])
+    ++ receive (free 240 10) ++ (reads 0x0024 0xff ∷ shows [] ∷ [])
+
+-- all other four wait at once, and are served from the highest down
+abbrev pub allWait : List Line
+allWait =
+    write 0x2000 0x02 ∷ write 0x0000 0x02 ∷ write 0x1000 0x02 ∷ write 0x3000 0x02 ∷ write 0x4000 0x02 ∷ reads 0x2000 0xa5 ∷ reads 0x1000 0x87
+    ∷ write 0x2000 0x20 ∷ reads 0x4000 0xa5 ∷ write 0x4000 0x20 ∷ reads 0x3000 0xa5 ∷ write 0x3000 0x20 ∷ reads 0x1000 0xa5 ∷ reads 0x0000 0x87
+    ∷ write 0x1000 0x20 ∷ reads 0x0000 0xa1 ∷ write 0x0000 0x20 ∷ reads 0x0000 0x81 ∷ []
+
+-- bytes F0h to FFh are stored as they come
+abbrev pub highBytes : List Line
+highBytes = p7 ++ (send (0xff ∷ 0xfe ∷ 0xf0 ∷ []) ++ (shows (0xff ∷ 0xfe ∷ 0xf0 ∷ []) ∷ []))
+
 abbrev pub sheet : List (List Line)
-sheet = p1 ∷ p2 ∷ p3 ∷ p4 ∷ p5 ∷ p6 ∷ p7 ∷ p8 ∷ p9 ∷ p10 ∷ p10′ ∷ p11 ∷ p12 ∷ []
+sheet =
+    p1 ∷ p2 ∷ p3 ∷ p4 ∷ p5 ∷ p6 ∷ p7 ∷ p8 ∷ p9 ∷ p10 ∷ p10′ ∷ p11 ∷ p12
+    ∷ seizures ∷ marks ∷ established ∷ interrupts ∷ onlookers ∷ engineAnswers ∷ allWait ∷ highBytes ∷ []
 
 -- the claim: every entry holds, from a fresh power-on
 abbrev pub Each : State → List (List Line) → Type 0

@@ -1,0 +1,57 @@
+-- The sheet on the calls' own contracts: whoever plays an entry by steps that the contracts allow sees what the sheet wants. Assumes nothing.
+use mathlib.Core.Path.{_≡_, refl, sym, ap, _∙_}
+use mathlib.Core.List.{List, [], _∷_}
+use Prim.Native.Nat.{ℕ}
+use Rattle.record.specs.declared.Device.{Device}
+use Rattle.claims.specs.Calls as call
+use Rattle.claims.specs.Calls.{Call, State, Answer, Called, called, left}
+use Rattle.claims.proofs.Steps.{Step}
+use Rattle.claims.proofs.Bridge.{step-called}
+use Rattle.conformance_claim.specs.Sheet.{Line, write, ignored, reads, refused, run, answer, reset, shows, Seen, number, answered, all, fresh, checks, gots, wants, sheet, Each}
+use Rattle.conformance_claim.proofs.SheetHolds.{sheet-holds}
+
+-- the lines, played from a state, and what is seen
+pub data Plays : State → List Line → List Seen → Type 0 where
+  none : {s : State} → Plays s [] []
+  writes : {s s′ : State} {a : Answer} {o v : ℕ} {l : List Line} {z : List Seen} → Step (call.write o v) s a s′ → Plays s′ l z → Plays s (write o v ∷ l) (answered a ∷ z)
+  ignores : {s s′ : State} {a : Answer} {o v : ℕ} {l : List Line} {z : List Seen} → Step (call.write o v) s a s′ → Plays s′ l z
+      → Plays s (ignored o v ∷ l) (answered a ∷ all s′ ∷ z)
+  looks : {s s′ : State} {a : Answer} {o v : ℕ} {l : List Line} {z : List Seen} → Step (call.read o) s a s′ → Plays s′ l z → Plays s (reads o v ∷ l) (answered a ∷ z)
+  refuses : {s s′ s″ : State} {a a′ : Answer} {o n : ℕ} {l : List Line} {z : List Seen} → Step (call.read o) s a s′ → Step (call.write o 0x00) s′ a′ s″ → Plays s″ l z
+      → Plays s (refused o n ∷ l) (answered a ∷ all s′ ∷ answered a′ ∷ all s″ ∷ z)
+  counts : {s : State} {n : ℕ} {l : List Line} {z : List Seen} → Plays s l z → Plays s (run n ∷ l) (number (s .device .control .run) ∷ z)
+  responds : {s s′ : State} {a : Answer} {n k : ℕ} {b : List ℕ} {l : List Line} {z : List Seen} → Step (call.respond k b) s a s′ → Plays s′ l z
+      → Plays s (answer n k b ∷ l) (answered a ∷ z)
+  restarts : {s s′ : State} {a : Answer} {l : List Line} {z : List Seen} → Step call.reset s a s′ → Plays s′ l z → Plays s (reset ∷ l) (answered a ∷ z)
+  views : {s s′ : State} {a : Answer} {b : List ℕ} {l : List Line} {z : List Seen} → Step call.window s a s′ → Plays s l z → Plays s (shows b ∷ l) (answered a ∷ z)
+
+-- a step is what `called` says
+by-step : {c : Call} {s s′ : State} {a : Answer} → Step c s a s′ → (f : Answer → State → List Seen) → f a s′ ≡ f (called c s .answer) (left c s)
+by-step p f = ap (λ (k : Called). f (k .answer) (k .left)) (sym (step-called p))
+
+plays-gots : {s : State} {l : List Line} {z : List Seen} → Plays s l z → z ≡ gots (checks s l)
+unfolding checks
+plays-gots none = refl
+plays-gots (writes {a = a} {l = l} p ps) = ap (λ (z : List Seen). answered a ∷ z) (plays-gots ps) ∙ by-step p (λ b t. answered b ∷ gots (checks t l))
+plays-gots (ignores {s′ = t} {a = a} {l = l} p ps) = ap (λ (z : List Seen). answered a ∷ all t ∷ z) (plays-gots ps) ∙ by-step p (λ b t. answered b ∷ all t ∷ gots (checks t l))
+plays-gots (looks {a = a} {l = l} p ps) = ap (λ (z : List Seen). answered a ∷ z) (plays-gots ps) ∙ by-step p (λ b t. answered b ∷ gots (checks t l))
+plays-gots (refuses {s′ = t} {s″ = u} {a = a} {a′ = b} {o = o} {l = l} p q ps) =
+    ap (λ (z : List Seen). answered a ∷ all t ∷ answered b ∷ all u ∷ z) (plays-gots ps)
+    ∙ by-step q (λ b u. answered a ∷ all t ∷ answered b ∷ all u ∷ gots (checks u l))
+    ∙ by-step p (λ a t. answered a ∷ all t ∷ answered (called (call.write o 0x00) t .answer) ∷ all (left (call.write o 0x00) t) ∷ gots (checks (left (call.write o 0x00) t) l))
+plays-gots (counts {s = s} ps) = ap (λ (z : List Seen). number (s .device .control .run) ∷ z) (plays-gots ps)
+plays-gots (responds {a = a} {l = l} p ps) = ap (λ (z : List Seen). answered a ∷ z) (plays-gots ps) ∙ by-step p (λ b t. answered b ∷ gots (checks t l))
+plays-gots (restarts {a = a} {l = l} p ps) = ap (λ (z : List Seen). answered a ∷ z) (plays-gots ps) ∙ by-step p (λ b t. answered b ∷ gots (checks t l))
+plays-gots (views {s = s} {a = a} {l = l} p ps) = ap (λ (z : List Seen). answered a ∷ z) (plays-gots ps) ∙ by-step p (λ b t. answered b ∷ gots (checks s l))
+
+-- every entry, played so, shows what is wanted
+abbrev pub EachPlays : State → List (List Line) → Type 0
+EachPlays s [] = Unit
+EachPlays s (e ∷ l) = ((z : List Seen) → Plays s e z → z ≡ wants (checks s e)) × EachPlays s l
+
+each-plays : (s : State) (l : List (List Line)) → Each s l → EachPlays s l
+each-plays s [] h = h
+each-plays s (e ∷ l) h = (λ z p. plays-gots p ∙ h .0, each-plays s l (h .1))
+
+pub sheet-on-contracts : (d : Device) → EachPlays (fresh d) sheet
+sheet-on-contracts d = each-plays (fresh d) sheet (sheet-holds d)
