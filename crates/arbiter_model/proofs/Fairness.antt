@@ -243,7 +243,7 @@ handed-above x m (e ∷ es) l w = rw (during-on x m e es w) (by (step m e .waiti
 -- the event after the first n makes x active, and ends its wait
 record Ends (x : ℕ) (m : Model) (es : List Event) : Type 0 where
   n : ℕ
-  waits : run m (take n es) .waiting x ≡ true
+  waits : (j : ℕ) → j ≤ n → run m (take j es) .waiting x ≡ true
   before : during x m (take n es) ≡ take n es
   whole : during x m es ≡ take (suc n) es
   active : run m (take (suc n) es) .active ≡ held x
@@ -266,6 +266,15 @@ ended x m (e ∷ es) w p q = by (step m e .waiting x) refl (rw (during-on x m e 
     more : (l : List Event) {l′ : List Event} → during x (step m e) l ≡ l′ → during x m (e ∷ l) ≡ e ∷ l′
     more l i = during-on x m e l w ∙ ap (λ (l : List Event). e ∷ l) i
 
+    -- before the event and after it
+    up-to : (n : ℕ) → ((j : ℕ) → j ≤ n → run (step m e) (take j es) .waiting x ≡ true) → (j : ℕ) → j ≤ suc n → run m (take j (e ∷ es)) .waiting x ≡ true
+    up-to n f zero l = w
+    up-to n f (suc j) l = f j (omega arith)
+
+    only : (j : ℕ) → j ≤ 0 → run m (take j (e ∷ es)) .waiting x ≡ true
+    only zero l = w
+    only (suc j) l = absurd (omega arith)
+
     by : (t : Bool) → step m e .waiting x ≡ t → one (isRelease x e) + tally (isRelease x) d ≡ 0 → one (isRestart e) + tally isRestart d ≡ 0
         → (step m e .waiting x ≡ true → tally (isRelease x) d ≡ 0 → tally isRestart d ≡ 0 → ((run (step m e) es .waiting x ≡ true) × (d ≡ es)) ⊎ Ends x (step m e) es)
         → ((run (step m e) es .waiting x ≡ true) × (during x m (e ∷ es) ≡ (e ∷ es))) ⊎ Ends x m (e ∷ es)
@@ -273,11 +282,11 @@ ended x m (e ∷ es) w p q = by (step m e .waiting x) refl (rw (during-on x m e 
       where
         on : ((run (step m e) es .waiting x ≡ true) × (d ≡ es)) ⊎ Ends x (step m e) es → ((run (step m e) es .waiting x ≡ true) × (during x m (e ∷ es) ≡ (e ∷ es))) ⊎ Ends x m (e ∷ es)
         on (inl c) = inl (c .0, more es (c .1))
-        on (inr z) = inr (record { n = suc (z .n); waits = z .waits; before = more (take (z .n) es) (z .before); whole = more es (z .whole); active = z .active })
+        on (inr z) = inr (record { n = suc (z .n); waits = up-to (z .n) (z .waits); before = more (take (z .n) es) (z .before); whole = more es (z .whole); active = z .active })
     by false k p q ih =
         inr (record {
           n = 0;
-          waits = w;
+          waits = only;
           before = during-nil x m;
           whole = more es (during-off x (step m e) es k);
           active = active (lasts m x e w (off (isRelease x e) (tally (isRelease x) d) p .0) (off (isRestart e) (tally isRestart d) q .0));
@@ -320,7 +329,7 @@ served-by-waits x k m l w es p q r n = by (ended x m es w p q)
         omega (arith, ap (handovers m) e)
 
     by : ((run m es .waiting x ≡ true) × (during x m es ≡ es)) ⊎ Ends x m es
-        → (n : ℕ) × (run m (take n es) .waiting x ≡ true) × (run m (take (suc n) es) .active ≡ held x) × (handovers m (take n es) < bound x k)
+        → (n : ℕ) × ((j : ℕ) → j ≤ n → run m (take j es) .waiting x ≡ true) × (run m (take (suc n) es) .active ≡ held x) × (handovers m (take n es) < bound x k)
     by (inl c) = absurd (over (c .0) (c .1))
     by (inr z) = (z .n, z .waits, z .active, omega (arith, passed))
       where
@@ -328,7 +337,7 @@ served-by-waits x k m l w es p q r n = by (ended x m es w p q)
         few y i j = rw (z .before) (omega (arith, beginnings-take y (z .n) m es, rw (z .whole) at (r y i j)))
 
         passed : handovers m (take (z .n) es) ≤ (4 - x) * (k + 1)
-        passed = rw (z .before) at (passed-by x k m (take (z .n) es) l w few (rw (z .before) (z .waits)))
+        passed = rw (z .before) at (passed-by x k m (take (z .n) es) l w few (rw (z .before) (z .waits (z .n) (omega arith))))
 
 -- and where every write of a request counts, as document 01 has it
 pub served : (x k : ℕ) (m : Model) → Served written m x k

@@ -21,7 +21,7 @@ Served often m x k =
     → tally isRestart (during x m es) ≡ 0
     → ((y : ℕ) → x < y → y < 5 → often y m (during x m es) ≤ k)
     → bound x k ≤ handovers m es
-    → (n : ℕ) × (run m (take n es) .waiting x ≡ true) × (run m (take (suc n) es) .active ≡ held x) × (handovers m (take n es) < bound x k)
+    → (n : ℕ) × ((j : ℕ) → j ≤ n → run m (take j es) .waiting x ≡ true) × (run m (take (suc n) es) .active ≡ held x) × (handovers m (take n es) < bound x k)
 
 -- m and m′ are one to every reader of the model
 pub record Same (m m′ : Model) : Type 0 where

@@ -1,16 +1,24 @@
 -- Whose command runs and whose answer is read. Assumes nothing.
 use mathlib.Core.Path.{_≡_, refl, sym, ap, _∙_}
 use mathlib.Core.Bool.{Bool, true, false, cond, _&&_, _||_, true≢false}
-use mathlib.Core.List.{List, [], _∷_}
-use Prim.Native.Nat.{ℕ, _-_, _/_, _≤_, _<_}
+use mathlib.Core.List.{List, [], _∷_, _++_}
+use mathlib.Core.Logic.{_⊎_, inl, inr}
+use Prim.Native.Nat.{ℕ, _+_, _-_, _/_, _≤_, _<_, _%_, _^_}
 use native.Mathlib.Omega.{arith}
 use lib.ListN.{length, getD, take, replicate}
 use lib.Seq.{take-append-seam}
-use lib.Dec.{eqb, ltb}
-use borrow.Author.Tests.{eqb-true, eq-eqb, le-leb, lt-ltb, ltb-false}
+use lib.Dec.{eqb, ltb, leb}
+use borrow.Author.Tests.{eqb-true, eq-eqb, le-leb, lt-ltb, ltb-false, eqb-false}
 use Rattle.refusal.specs.Refusal.{accepted}
+use Rattle.claims.proofs.Residue.{Moved, turned}
+use Rattle.claims.specs.Demand3.{activeIn}
+use Rattle.record.specs.declared.Phase.the-variants.{Idle}
+use Rattle.bits.specs.Bits.{bit}
+use Rattle.arbiter_model.proofs.ModelLaws.{not-free, held-same}
+use Rattle.reg_layout.specs.Offsets.{within, inFour, placeOf, hashStart, hashEnd}
+use Rattle.reg_layout.proofs.Within.{within-then}
 use Rattle.arbiter.specs.State.{holds}
-use Rattle.arbiter_model.specs.Model.{Model, held, step, fresh}
+use Rattle.arbiter_model.specs.Model.{Model, held, step, fresh, Holder, free, writeEvent}
 use Rattle.arbiter_model.specs.Waits.{run}
 use Rattle.record.specs.declared.Device.{Device}
 use Rattle.pcr.proofs.MaskTable.{neither}
@@ -34,11 +42,13 @@ use Rattle.call_respond.proofs.Cases.{RespondCase, respond-case}
 use Rattle.claims.specs.Calls as call
 use Rattle.claims.specs.Calls.{Call, powerOn, read, write, respond, window, State, state, nothing, byte, bytes, Answer, gives, changes, shownBy, called, refusalOf, left, after, heard}
 use Rattle.claims.specs.Events.{written, answered, entryOf, eventFor, happens, events, modelAfter}
-use Rattle.claims.specs.Mailbox.{Mailbox, idle, ready, receiving, executing, answering, Mail, mail, sizeOf, fetched, isActive, isSts, isFifo, mailStep, mailFrom, phaseOf}
-use Rattle.claims.specs.Answers.{Trail, trail, trailStep, trailFrom, endsRun, fits, answersRun, Undisturbed, Owned, OwnedClaim}
+use Rattle.record_shape.specs.Shape as shape
+use Rattle.claims.specs.Mailbox as mailbox
+use Rattle.claims.specs.Mailbox.{Mailbox, idle, ready, receiving, executing, answering, Mail, mail, sizeOf, fetched, isActive, isSts, isFifo, mailStep, mailFrom, phaseOf, badSizeAnswer, moreExpected, readied, gone, retried, ordered, stored, byActive, answerOf}
+use Rattle.claims.specs.Answers.{Trail, trail, trailStep, trailFrom, endsRun, isPort, fits, answersRun, Undisturbed, Owned, OwnedClaim, hasMail}
 use Rattle.claims.proofs.CallCases.{CallCase, same, powers, resets, looks, reads, writes, responds, call-case}
 use Rattle.claims.proofs.Padded.{byte-padded}
-use Rattle.claims.proofs.Mailbox.{active-same, Elsewhere, at-hash-start, at-hash-end, at-access, write-length, Kept, one-kept, all-kept, first-kept}
+use Rattle.claims.proofs.Mailbox.{active-same, write-length, Kept, one-kept, all-kept, first-kept}
 use Rattle.claims.proofs.Progress.{Placed, sequence-then, one-placed, book-fits, bus-value, works, power-placed, all-placed}
 use Rattle.claims.proofs.Trail.{Taken, Told, still-fetched, written-told, goes-on}
 
@@ -128,6 +138,123 @@ answered-after c m q s bs h p e (k ∷ ks) u a l g =
     let h′ : Kept c (step m (happens k s)) q (left k s) = rw i at (one-kept c m q s h k) in
     answered-after c (step m (happens k s)) q (left k s) bs h′ (one-placed (call-case k s) (book-fits s h p .opened) p) e ks (u .2) a l g
 
+-- ---- where an answer comes from, and who is active
+
+idle-has : (b : Mailbox) → phaseOf b ≡ Idle → hasMail b ≡ false
+idle-has idle e = refl
+idle-has ready e = refl
+idle-has (receiving bs) e = absurd (true≢false (sym (ap shape.idle e)))
+idle-has (executing bs) e = absurd (true≢false (sym (ap shape.idle e)))
+idle-has (answering a k) e = absurd (true≢false (sym (ap shape.idle e)))
+
+same-holder : (h k : Holder) → (h ≡ k) ⊎ (h ≡ k → ⊥)
+same-holder free free = inl refl
+same-holder free (held y) = inr (λ e. not-free (sym e))
+same-holder (held y) free = inr not-free
+same-holder (held y) (held z) = by (eqb y z) refl
+  where
+    by : (t : Bool) → eqb y z ≡ t → (held y ≡ held z) ⊎ (held y ≡ held z → ⊥)
+    by true e = inl (ap held (eqb-true y z e))
+    by false e = inr (λ i. eqb-false y z e (held-same i))
+
+-- the answer a was there, or is the one that the call k brought, or is the 19h answer
+abbrev Comes : Mailbox → Call → ℕ → List ℕ → Type 0
+Comes b k n a = ((i : ℕ) × (b ≡ answering a i)) ⊎ ((run : ℕ) × (k ≡ respond run a) × (n ≡ accepted)) ⊎ (a ≡ badSizeAnswer)
+
+abbrev isAnswer : Mailbox → Bool
+isAnswer idle = false
+isAnswer ready = false
+isAnswer (receiving bs) = false
+isAnswer (executing bs) = false
+isAnswer (answering a k) = true
+
+module _ {a : List ℕ} {j : ℕ} where
+  -- no answer is there
+  none-there : {X : Type 0} (b : Mailbox) → isAnswer b ≡ false → b ≡ answering a j → X
+  none-there b i e = absurd (true≢false (sym (ap isAnswer e) ∙ i))
+
+  -- it is this one
+  this-one : {x : List ℕ} {i : ℕ} → answering x i ≡ answering a j → x ≡ a
+  this-one e = ap answerOf e
+
+  fetched-comes : (b : Mailbox) → fetched b ≡ answering a j → (i : ℕ) × (b ≡ answering a i)
+  fetched-comes idle e = none-there idle refl e
+  fetched-comes ready e = none-there ready refl e
+  fetched-comes (receiving bs) e = none-there (receiving bs) refl e
+  fetched-comes (executing bs) e = none-there (executing bs) refl e
+  fetched-comes (answering x i) e = by (ltb i (length x)) e
+    where
+      by : (t : Bool) → cond t (answering x (i + 1)) (answering x i) ≡ answering a j → (i′ : ℕ) × (answering x i ≡ answering a i′)
+      by true e = (i, ap (λ (z : List ℕ). answering z i) (this-one e))
+      by false e = (i, ap (λ (z : List ℕ). answering z i) (this-one e))
+
+  module _ (c v : ℕ) (q : Mail) (k : Call) (n : ℕ) where
+    readied-comes : (b : Mailbox) → readied b ≡ answering a j → Comes b k n a
+    readied-comes idle e = none-there ready refl e
+    readied-comes ready e = none-there ready refl e
+    readied-comes (receiving bs) e = none-there idle refl e
+    readied-comes (executing bs) e = none-there idle refl e
+    readied-comes (answering x i) e = none-there idle refl e
+
+    gone-comes : (b : Mailbox) (r : ℕ) → gone c b r .box ≡ answering a j → Comes b k n a
+    gone-comes idle r e = inl (j, e)
+    gone-comes ready r e = inl (j, e)
+    gone-comes (receiving bs) r e = by (moreExpected c bs) (leb 10 (sizeOf bs) && leb (sizeOf bs) c) e
+      where
+        by : (t u : Bool) → cond t (mail (receiving bs) r) (cond u (mail (executing bs) ((r + 1) % 2 ^ 32)) (mail (answering badSizeAnswer 0) r)) .box ≡ answering a j → Comes (receiving bs) k n a
+        by true u e = none-there (receiving bs) refl e
+        by false true e = none-there (executing bs) refl e
+        by false false e = inr (inr (sym (this-one e)))
+    gone-comes (executing bs) r e = inl (j, e)
+    gone-comes (answering x i) r e = inl (j, e)
+
+    retried-comes : (b : Mailbox) → retried b ≡ answering a j → Comes b k n a
+    retried-comes idle e = inl (j, e)
+    retried-comes ready e = inl (j, e)
+    retried-comes (receiving bs) e = inl (j, e)
+    retried-comes (executing bs) e = inl (j, e)
+    retried-comes (answering x i) e = inl (i, ap (λ (z : List ℕ). answering z i) (this-one e))
+
+    stored-comes : (b : Mailbox) → stored c v b ≡ answering a j → Comes b k n a
+    stored-comes idle e = inl (j, e)
+    stored-comes ready e = none-there (receiving (v ∷ [])) refl e
+    stored-comes (receiving bs) e = by (moreExpected c bs) e
+      where
+        by : (t : Bool) → cond t (receiving (bs ++ (v ∷ []))) (receiving bs) ≡ answering a j → Comes (receiving bs) k n a
+        by true e = none-there (receiving (bs ++ (v ∷ []))) refl e
+        by false e = none-there (receiving bs) refl e
+    stored-comes (executing bs) e = inl (j, e)
+    stored-comes (answering x i) e = inl (j, e)
+
+    ordered-comes : ordered c v q .box ≡ answering a j → Comes (q .box) k n a
+    ordered-comes e = by (eqb (bit 6 v + bit 5 v + bit 1 v) 1) (eqb (bit 6 v) 1) (eqb (bit 5 v) 1) e
+      where
+        by : (t₁ t₂ t₃ : Bool) → cond t₁ (cond t₂ (mail (readied (q .box)) (q .run)) (cond t₃ (gone c (q .box) (q .run)) (mail (retried (q .box)) (q .run)))) q .box ≡ answering a j → Comes (q .box) k n a
+        by true true t₃ e = readied-comes (q .box) e
+        by true false true e = gone-comes (q .box) (q .run) e
+        by true false false e = retried-comes (q .box) e
+        by false t₂ t₃ e = inl (j, e)
+
+    written-comes : (x y z : Bool) → cond x (mail idle (q .run)) (cond y (ordered c v q) (cond z (mail (stored c v (q .box)) (q .run)) q)) .box ≡ answering a j → Comes (q .box) k n a
+    written-comes true y z e = none-there idle refl e
+    written-comes false true z e = ordered-comes e
+    written-comes false false true e = stored-comes (q .box) e
+    written-comes false false false e = inl (j, e)
+
+  read-comes : (q : Mail) (k : Call) (n : ℕ) (t : Bool) → cond t (mail (fetched (q .box)) (q .run)) q .box ≡ answering a j → Comes (q .box) k n a
+  read-comes q k n true e = inl (fetched-comes (q .box) e)
+  read-comes q k n false e = inl (j, e)
+
+call-comes : (c : ℕ) (m : Model) (q : Mail) {s s′ : State} {k : Call} {n : ℕ} {a : List ℕ} {j : ℕ} → CallCase s k n s′ → mailStep c m q (entryOf k n) .box ≡ answering a j
+    → Comes (q .box) k n a
+call-comes c m q {j = j} (same p i) e = inl (j, rw i at e)
+call-comes c m q (powers k) e = none-there idle refl e
+call-comes c m q (resets i) e = none-there idle refl e
+call-comes c m q (looks {o = o} i) e = read-comes q (read o) accepted (isActive (m .active) (o / 0x1000) && isFifo o) e
+call-comes c m q (reads {o = o} i h) e = read-comes q (read o) accepted (isActive (m .active) (o / 0x1000) && isFifo o) e
+call-comes c m q (writes {o = o} {v = v} w) e = written-comes c v q (write o v) accepted (mailbox.aborts m (writeEvent o v)) (byActive m o && isSts o) (byActive m o && isFifo o) e
+call-comes c m q (responds {run = r} i) e = inr (inl (r, ap (respond r) (this-one e), refl))
+
 -- ---- the claim
 
 module _ {c : ℕ} {m : Model} {q : Mail} (s : State) (h : Kept c m q s) (p : Placed (s .device)) where
@@ -168,19 +295,44 @@ module _ {c : ℕ} {m : Model} {q : Mail} (s : State) (h : Kept c m q s) (p : Pl
       let j : 4 ≡ o / 0x1000 = sym (eqb-true (o / 0x1000) 4 (both-true (s .device .launch .sequence) (eqb (o / 0x1000) 4) g .1)) in
       true≢false (sym (rw i (eq-eqb 4 (o / 0x1000) j)) ∙ e)
 
-  neither-of : (o : ℕ) → Elsewhere o → (isSts o || isFifo o) ≡ true → ⊥
-  neither-of o x e = true≢false (sym (rw (x .noSts, x .noFifo) at e))
+  -- STS and FIFO lie from 18h to 1Ah and from 24h to 27h
+  port-then : (o : ℕ) → isPort o ≡ true → ((0x18 ≤ placeOf o) × (placeOf o ≤ 0x1a)) ⊎ ((0x24 ≤ placeOf o) × (placeOf o ≤ 0x27))
+  port-then o e = by (within 0x18 0x1a (placeOf o)) refl e
+    where
+      by : (t : Bool) → within 0x18 0x1a (placeOf o) ≡ t → (t || isFifo o) ≡ true → ((0x18 ≤ placeOf o) × (placeOf o ≤ 0x1a)) ⊎ ((0x24 ≤ placeOf o) × (placeOf o ≤ 0x27))
+      by true i q = inl (within-then 0x18 0x1a (placeOf o) i)
+      by false i q = inr (within-then 0x24 0x27 (placeOf o) q)
 
-  write-other : (o v : ℕ) → o ≤ 0x4fff → (isSts o || isFifo o) ≡ true → isActive (m .active) (o / 0x1000) ≡ false → called (write o v) s ≡ gives 0 nothing s
+  -- and so apart from hash start, hash end and ACCESS
+  not-hash : (a o : ℕ) → inFour a o ≡ true → (a ≡ 0x4020) ⊎ (a ≡ 0x4028) → isPort o ≡ true → ⊥
+  not-hash a o i z e = by z (port-then o e)
+    where
+      k : (a ≤ o) × (o ≤ a + 3)
+      k = within-then a (a + 3) o i
+
+      by : (a ≡ 0x4020) ⊎ (a ≡ 0x4028) → ((0x18 ≤ placeOf o) × (placeOf o ≤ 0x1a)) ⊎ ((0x24 ≤ placeOf o) × (placeOf o ≤ 0x27)) → ⊥
+      by (inl z) (inl p) = omega (arith, k .0, k .1, p .0, p .1)
+      by (inl z) (inr p) = omega (arith, k .0, k .1, p .0, p .1)
+      by (inr z) (inl p) = omega (arith, k .0, k .1, p .0, p .1)
+      by (inr z) (inr p) = omega (arith, k .0, k .1, p .0, p .1)
+
+  not-access : (o : ℕ) → placeOf o ≡ 0 → isPort o ≡ true → ⊥
+  not-access o z e = by (port-then o e)
+    where
+      by : ((0x18 ≤ placeOf o) × (placeOf o ≤ 0x1a)) ⊎ ((0x24 ≤ placeOf o) × (placeOf o ≤ 0x27)) → ⊥
+      by (inl p) = omega (arith, p .0)
+      by (inr p) = omega (arith, p .0)
+
+  write-other : (o v : ℕ) → o ≤ 0x4fff → isPort o ≡ true → isActive (m .active) (o / 0x1000) ≡ false → called (write o v) s ≡ gives 0 nothing s
   write-other o v l i e = by (write-case (s .device) (s .writeFifo) (s .readFifo) o v)
     where
       on : {d : Device} {w r : List ℕ} → Writes (s .device) (s .writeFifo) (s .readFifo) o v d w r → gives 0 nothing (state d w r) ≡ gives 0 nothing s
-      on (starts j k) = absurd (neither-of o (at-hash-start o j) i)
-      on (ends j k z) = absurd (neither-of o (at-hash-end o k) i)
+      on (starts j k) = absurd (not-hash hashStart o j (inr refl) i)
+      on (ends j k z) = absurd (not-hash hashEnd o k (inl refl) i)
       on (joins u g j k) = absurd (not-hash-page o e g)
       on (ignores j) = refl
-      on (aborts k u g j z) = absurd (neither-of o (at-access o j) i)
-      on (keeps k u g j z) = absurd (neither-of o (at-access o j) i)
+      on (aborts k u g j z) = absurd (not-access o j i)
+      on (keeps k u g j z) = absurd (not-access o j i)
       on (sets u g n j k z) = absurd (true≢false (sym j ∙ holds-is o e))
       on (commands u g n j k z y) = absurd (true≢false (sym j ∙ holds-is o e))
 
@@ -203,11 +355,24 @@ module _ {c : ℕ} {m : Model} {q : Mail} (s : State) (h : Kept c m q s) (p : Pl
       by (asking.refused f) z = absurd (f z)
       by (asking.shows g) z = rw (z, command) refl
 
+  -- the active locality stays where a command or an answer is left
+  mail-stays : (k : Call) → hasMail (mailStep c m q (entryOf k (refusalOf k s)) .box) ≡ true → step m (happens k s) .active ≡ m .active
+  mail-stays k e = by (same-holder (activeIn (left k s .device)) (activeIn (s .device)))
+    where
+      next : Kept c (step m (happens k s)) (mailStep c m q (entryOf k (refusalOf k s))) (left k s)
+      next = one-kept c m q s h k
+
+      by : (activeIn (left k s .device) ≡ activeIn (s .device)) ⊎ Moved s (left k s) → step m (happens k s) .active ≡ m .active
+      by (inl i) = next .book .active ∙ i ∙ sym (h .book .active)
+      by (inr f) = absurd (true≢false (sym e ∙ idle-has (mailStep c m q (entryOf k (refusalOf k s)) .box) (sym (next .boxed .phase) ∙ turned s p (call-case k s) f)))
+
   proof : (t : Trail) → Told c m (q .box) t → Owned c m q t s
   proof t d = record {
     shows = λ bs e. shown t bs e ((rw e at d) .0);
     runs = λ bs e. (rw e at d) .1;
     has = λ a k e. rw e at d;
+    stays = mail-stays;
+    comes = λ k a j e. call-comes c m q (call-case k s) e;
     accepts = accepts-it;
     reads = read-byte;
     others = read-other;

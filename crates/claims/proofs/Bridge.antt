@@ -1,10 +1,11 @@
 -- The bridge between the claims and the functions: a step on the functions' contracts is just what the calls' definitions say, and there is
 -- one for each call and whatever it is handed; so a claim over lists of calls holds of the functions. Assumes nothing.
-use mathlib.Core.Path.{_≡_, refl, sym, ap, _∙_, subst}
+use mathlib.Core.Path.{_≡_, refl, ap, _∙_, subst}
 use mathlib.Core.Bool.{Bool, true, false, cond}
 use mathlib.Core.List.{List, [], _∷_}
-use Prim.Native.Nat.{ℕ, zero, suc, _+_, _-_}
-use lib.ListN.{take, drop}
+use Prim.Native.Nat.{ℕ, _+_, _-_}
+use lib.ListN.{length, take, drop}
+use lib.Seq.{take-length}
 use denote.Ref.{RefT, now, ptr}
 use contract.Lifetimes.{Lfts}
 use Rattle.pcr.specs.Permission as table
@@ -114,34 +115,31 @@ unfolding heard after
 called-runs s [] = none
 called-runs s (c ∷ cs) = more (called-step c s) (called-runs (left c s) cs)
 
--- the same of calls that are lent FIFOs of their own, for each front part of the list
-pub lent-called : {d d′ : Device} {h : List (Call × Answer)} → LentRuns d h d′ → (n : ℕ)
-    → (ks : List Lent) × (lentHeard d (take n ks) ≡ take n h) × LentRuns d (take n h) (lentAfter d (take n ks))
+-- the same of calls that are lent FIFOs of their own
+pub lent-called : {d d′ : Device} {h : List (Call × Answer)} → LentRuns d h d′ → (ks : List Lent) × (lentHeard d ks ≡ h) × (lentAfter d ks ≡ d′)
 unfolding lentHeard lentAfter
-lent-called noneLent zero = ([], refl, noneLent)
-lent-called noneLent (suc n) = ([], refl, noneLent)
-lent-called (moreLent p ps) zero = ([], refl, noneLent)
-lent-called {d} (moreLent {w = w} {r = r} {s₁ = s₁} {c = c} {a = a} {cs = h} p ps) (suc n) =
-    let k : Lent = record { call = c; writeFifo = w; readFifo = r } in
-    let z : _ = lent-called ps n in
+lent-called noneLent = ([], refl, refl)
+lent-called {d} (moreLent {w = w} {r = r} {s₁ = s₁} {c = c} {a = a} {cs = h} p ps) =
+    let z : _ = lent-called ps in
     let e : left c (state d w r) ≡ s₁ = ap (λ (k : Called). k .left) (step-called p) in
     let f : called c (state d w r) .answer ≡ a = ap (λ (k : Called). k .answer) (step-called p) in (
-      k ∷ z .0,
-      ap (λ (b : Answer). (c, b) ∷ lentHeard (left c (state d w r) .device) (take n (z .0))) f
-          ∙ ap (λ (s : State). (c, a) ∷ lentHeard (s .device) (take n (z .0))) e
+      record { call = c; writeFifo = w; readFifo = r } ∷ z .0,
+      ap (λ (b : Answer). (c, b) ∷ lentHeard (left c (state d w r) .device) (z .0)) f
+          ∙ ap (λ (s : State). (c, a) ∷ lentHeard (s .device) (z .0)) e
           ∙ ap (λ (l : List (Call × Answer)). (c, a) ∷ l) (z .1),
-      moreLent p (subst (λ (s : State). LentRuns (s₁ .device) (take n h) (lentAfter (s .device) (take n (z .0)))) (sym e) (z .2)),
+      ap (λ (s : State). lentAfter (s .device) (z .0)) e ∙ z .2,
     )
 
 pub on-lent-contracts : (P : List (Call × Answer) → Device → Type 0) → OverLent P → OnLentContracts P
 unfolding lentHeard lentAfter
-on-lent-contracts P f s₀ s₁ d e i a h p ps n =
-    let z : _ = lent-called ps n in
+on-lent-contracts P f s₀ s₁ d d′ e i a h later p ps qs =
+    let z : _ = lent-called ps in
     let first : Lent = record { call = powerOn e i; writeFifo = s₀ .writeFifo; readFifo = s₀ .readFifo } in
     let c : called (powerOn e i) s₀ ≡ record { answer = a; left = s₁ } = step-called p in
-    let k : P ((powerOn e i, a) ∷ lentHeard (s₁ .device) (take n (z .0))) (lentAfter (s₁ .device) (take n (z .0)))
-    = subst (λ (k : Called). P ((powerOn e i, k .answer) ∷ lentHeard (k .left .device) (take n (z .0))) (lentAfter (k .left .device) (take n (z .0)))) c (f (s₀ .device) first refl (z .0) n) in
-    (lentAfter (s₁ .device) (take n (z .0)), z .2, rw (z .1) at k)
+    let whole : P (lentHeard (s₀ .device) (first ∷ z .0)) (lentAfter (s₀ .device) (first ∷ z .0)) = rw (take-length (z .0)) at (f (s₀ .device) first refl (z .0) (length (z .0))) in
+    let k : P ((powerOn e i, a) ∷ lentHeard (s₁ .device) (z .0)) (lentAfter (s₁ .device) (z .0))
+    = subst (λ (k : Called). P ((powerOn e i, k .answer) ∷ lentHeard (k .left .device) (z .0)) (lentAfter (k .left .device) (z .0))) c whole in
+    rw (z .1, z .2) at k
 
 -- a claim over lists of calls is one on the functions' contracts, and the other way round
 pub on-contracts : (P : State → List (Call × Answer) → State → Type 0) → OverLists P → OnContracts P

@@ -1,10 +1,11 @@
 -- Demand 3 over every list of calls, whatever FIFOs each is lent. Assumes nothing.
 use mathlib.Core.Path.{_≡_, refl, sym, ap, _∙_, fun-ext}
 use mathlib.Core.Bool.{true, true≢false}
-use mathlib.Core.List.{List, [], _∷_}
+use mathlib.Core.List.{List, [], _∷_, _++_}
 use mathlib.Core.Logic.{_⊎_, inl, inr}
 use Prim.Native.Nat.{ℕ, zero, suc, _<_}
-use lib.ListN.{take}
+use lib.ListN.{length, take}
+use lib.Seq.{take-length}
 use Rattle.arbiter_model.specs.Model.{Model, held, Event, restart, access, requestUse, highest, step, fresh}
 use Rattle.arbiter_model.specs.Waits.{run, written, beginnings}
 use Rattle.arbiter_model.specs.Claims as book
@@ -15,7 +16,7 @@ use Rattle.record.specs.declared.Device.{Device}
 use Rattle.call_power.proofs.Cases.{power-case}
 use Rattle.claims.specs.Calls.{Call, powerOn, reset, read, write, respond, pcrValue, interruptLine, mayReset, mayExtend, window, isPowerOn, State, refusalOf, left, after, heard, OverLists, Lent, handed, lentLeft, lentAfter, lentHeard}
 use Rattle.claims.specs.Events.{eventOf, events, modelAfter}
-use Rattle.claims.specs.Demand3.{activeIn, waitsIn, Keeps, occurs, Served, Demand3, DemandThree, Demand3Handed}
+use Rattle.claims.specs.Demand3.{activeIn, waitsIn, Keeps, occurs, Served, Demand3, DemandThree, FromRequest, Demand3Handed}
 use Rattle.claims.proofs.Book.{power-keeps, one-call, all-calls, sound-call, sound-run}
 
 -- ---- lists of calls that are lent FIFOs
@@ -48,7 +49,7 @@ served-by often d m x k a h v l w ks p q r n =
     let f : _ = v l (a .flags x ∙ w) (events (lentHeard d ks)) p q r n in
     let e : _ = events-take (f .0) d ks in
     let g : _ = events-take (suc (f .0)) d ks in
-    (f .0, sym (all-lent m d (take (f .0) ks) a h .flags x) ∙ rw e at (f .1), sym (all-lent m d (take (suc (f .0)) ks) a h .active) ∙ rw g at (f .2), rw e at (f .3))
+    (f .0, (λ j i. sym (all-lent m d (take j ks) a h .flags x) ∙ rw (events-take j d ks) at (f .1 j i)), sym (all-lent m d (take (suc (f .0)) ks) a h .active) ∙ rw g at (f .2), rw e at (f .3))
 
 proof : (m : Model) (d : Device) → Keeps m d → Sound m → Demand3 m d
 proof m d a h = record {
@@ -98,6 +99,23 @@ demand-3 d first q ks n =
     let t : Device = lentLeft first d in
     let k : Demand3 (run fresh (events (lentHeard t (take n ks)))) (lentAfter t (take n ks)) = proof _ _ (all-lent fresh t (take n ks) (f .1) sound-fresh) (sound-lent fresh t (take n ks) sound-fresh) in
     rw (f .0) k
+
+-- one call more
+lent-more : (d : Device) (l : List Lent) (c : Lent) → lentAfter d (l ++ (c ∷ [])) ≡ lentLeft c (lentAfter d l)
+unfolding lentAfter
+lent-more d [] c = refl
+lent-more d (k ∷ l) c = lent-more (lentLeft k d) l c
+
+run-more : (m : Model) (d : Device) (l : List Lent) (c : Lent) → run m (events (lentHeard d (l ++ (c ∷ [])))) ≡ step (run m (events (lentHeard d l))) (occurs c (lentAfter d l))
+unfolding run events lentHeard lentAfter
+run-more m d [] c = refl
+run-more m d (k ∷ l) c = run-more (step m (occurs k d)) (lentLeft k d) l c
+
+pub from-request : FromRequest
+unfolding modelAfter
+from-request d first q before c x y k l e i j =
+    let n : Demand3 (modelAfter (lentHeard d (first ∷ before))) (lentAfter d (first ∷ before)) = rw (take-length before) at (demand-3 d first q before (length before)) in
+    rw (lent-more d (first ∷ before) c, run-more fresh d (first ∷ before) c) (n .servedFrom c x y k l e i j)
 
 -- each call is lent what the last one left
 pub demand-3-handed : OverLists Demand3Handed

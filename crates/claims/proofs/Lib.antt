@@ -13,8 +13,8 @@ pub mod Mailbox
 pub mod Progress
 pub mod StaleAnswers
 pub mod Trail
+pub mod Residue
 pub mod Answers
 pub mod Signals
 pub mod History
-pub mod Residue
 pub mod Theorems

@@ -537,6 +537,10 @@ unfolding after heard lastPowered
 all-halted d w r e [] = refl
 all-halted d w r e (k ∷ ks) = rw (halted-left (state d w r) e k) (all-halted (poweredBy k d) w r e ks)
 
+refused-lengths : (w r : List ℕ) → lengthsAllowed (lengthsOf w r) ≡ false → (leb 1024 (length w) && leb (length w) 4096 && eqb (length w) (length r)) ≡ false
+unfolding lengthsAllowed
+refused-lengths w r e = e
+
 -- ---- the claim
 
 pub progress : ProgressClaim
@@ -564,6 +568,7 @@ progress s e i cs = record { works = working; halts = halted }
         let q : _ = short f in
         let k : after s (powerOn e i ∷ cs) ≡ state (lastPowered (s .device) (heard s (powerOn e i ∷ cs))) (s .writeFifo) (s .readFifo) = all-halted (s .device) (s .writeFifo) (s .readFifo) q (powerOn e i ∷ cs) in
         record {
+          lengths = refused-lengths (s .writeFifo) (s .readFifo) q;
           device = ap (λ (z : State). z .device) k;
           writeFifo = ap (λ (z : State). z .writeFifo) k;
           readFifo = ap (λ (z : State). z .readFifo) k;

@@ -79,7 +79,7 @@ free-idle Nobody p q e f = idle-is p e
 free-idle (Held y) p q e f = absurd (not-free f)
 
 -- a call that takes the device from its owner, or gives it to one, leaves Idle
-abbrev Moved : State → State → Type 0
+abbrev pub Moved : State → State → Type 0
 Moved s s′ = activeIn (s′ .device) ≡ activeIn (s .device) → ⊥
 
 fresh-idle : (established : Bool) (identity : List ℕ) (n : ℕ) → freshDevice established identity n .phase ≡ Idle
@@ -96,7 +96,7 @@ module _ (s : State) (p : Placed (s .device)) where
   power-idle (power.refused l) = fresh-idle _ _ _
   power-idle (power.powered l) = fresh-idle _ _ _
 
-  turned : {c : Call} {n : ℕ} {s′ : State} → CallCase s c n s′ → Moved s s′ → s′ .device .phase ≡ Idle
+  pub turned : {c : Call} {n : ℕ} {s′ : State} → CallCase s c n s′ → Moved s s′ → s′ .device .phase ≡ Idle
   turned (same q e) f = absurd (f refl)
   turned (powers k) f = power-idle k
   turned (resets e) f = fresh-idle _ _ _

@@ -2,7 +2,6 @@
 use mathlib.Core.Bool.{Bool}
 use mathlib.Core.List.{List, [], _∷_}
 use Prim.Native.Nat.{ℕ}
-use lib.ListN.{take}
 use denote.Ref.{RefT, now}
 use contract.Lifetimes.{Lfts}
 use Rattle.arbiter.specs.State.{locality}
@@ -77,11 +76,11 @@ pub data LentRuns : Device → List (Call × Answer) → Device → Type 0 where
   moreLent : {d d₂ : Device} {w r : List ℕ} {s₁ : State} {c : Call} {a : Answer} {cs : List (Call × Answer)} → Step c (state d w r) a s₁ → LentRuns (s₁ .device) cs d₂
       → LentRuns d ((c, a) ∷ cs) d₂
 
--- a claim after each call of every such list that starts with a power-on: of what is heard up to there, and of the record
+-- a claim after each call of every such list that starts with a power-on: of what is heard up to there, and of the record d that is left there; what
+-- is heard and left after it is anything
 abbrev pub OnLentContracts : (List (Call × Answer) → Device → Type 0) → Type 0
-OnLentContracts P = (s₀ s₁ : State) (d : Device) (established : Bool) (identity : List ℕ) (a : Answer) (cs : List (Call × Answer))
-    → Step (powerOn established identity) s₀ a s₁ → LentRuns (s₁ .device) cs d
-    → (n : ℕ) → (dₙ : Device) × LentRuns (s₁ .device) (take n cs) dₙ × P ((powerOn established identity, a) ∷ take n cs) dₙ
+OnLentContracts P = (s₀ s₁ : State) (d e : Device) (established : Bool) (identity : List ℕ) (a : Answer) (cs later : List (Call × Answer))
+    → Step (powerOn established identity) s₀ a s₁ → LentRuns (s₁ .device) cs d → LentRuns d later e → P ((powerOn established identity, a) ∷ cs) d
 
 -- a claim of what the first call was handed, what is heard and what is left, over every list of calls that starts with a power-on
 abbrev pub OnContracts : (State → List (Call × Answer) → State → Type 0) → Type 0

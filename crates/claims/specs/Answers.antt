@@ -1,18 +1,20 @@
 -- Whose command runs and whose answer is read, over lists of calls: what follows from the mailbox, in plain words. An answer reaches only the
--- locality that started its run. Run numbers start again at a power-on and after 2 ^ 32 runs: an engine that answers a run of before a power-on
--- with a number that runs again is not found out. Assumes nothing.
-use Prim.Native.Nat.{ℕ, _+_, _/_, _≤_, _<_}
+-- locality that started its run. Run numbers start again at a power-on and after 2 ^ 32 runs: an answer to an older run whose number is in use again
+-- is taken for the new run's. Assumes nothing.
+use Prim.Native.Nat.{ℕ, _+_, _/_, _%_, _≤_, _<_}
 use mathlib.Core.Path.{_≡_}
 use mathlib.Core.Bool.{Bool, true, false, cond, not, _&&_, _||_}
 use mathlib.Core.List.{List, [], _∷_, _++_}
+use mathlib.Core.Logic.{_⊎_}
 use lib.ListN.{length, getD, take}
 use lib.Dec.{eqb, leb}
 use Rattle.bits.specs.Bits.{bit}
+use Rattle.reg_layout.specs.Offsets.{within}
 use Rattle.refusal.specs.Refusal.{accepted}
 use Rattle.arbiter_model.specs.Model.{Model, held, writeEvent, step, fresh}
 use Rattle.claims.specs.Calls.{Call, powerOn, reset, read, write, respond, pcrValue, interruptLine, mayReset, mayExtend, window, State, nothing, byte, bytes, Answer, gives, called, refusalOf, left, after, StartsAccepted, OverLists}
 use Rattle.claims.specs.Events.{Entry, poweredOn, restarted, written, readAt, answered, none, entryOf, eventFor, happens, modelAfter}
-use Rattle.claims.specs.Mailbox.{Mailbox, idle, ready, receiving, executing, answering, Mail, mail, sizeOf, moreExpected, isActive, byActive, isSts, isFifo, aborts, mailStep, mailAfter}
+use Rattle.claims.specs.Mailbox.{Mailbox, idle, ready, receiving, executing, answering, Mail, mail, sizeOf, moreExpected, badSizeAnswer, isActive, byActive, isSts, isFifo, aborts, mailStep, mailAfter}
 
 -- ---- two things more that a list of calls tells
 
@@ -42,7 +44,8 @@ abbrev pub sends : Model → ℕ → Bool
 sends m o = byActive m o && isFifo o
 
 pub record Trail : Type 0 where
-  -- the bytes that the active locality wrote at its FIFO since its last 40h, or since it got the device
+  -- the bytes that the active locality wrote at its FIFO since its last 40h, or since it got the device: while a command is received or runs, since
+  -- the 40h that left Idle, for in Ready no byte has come
   pub sent : List ℕ
   -- who wrote the last go that counted
   pub starter : ℕ
@@ -74,6 +77,18 @@ trailFrom c m p t (k ∷ ks) =
 
 abbrev pub trailAfter : ℕ → List (Call × Answer) → Trail
 trailAfter c h = trailFrom c fresh (mail idle 0) (trail [] 0) h
+
+-- is there a command or an answer
+abbrev pub hasMail : Mailbox → Bool
+hasMail idle = false
+hasMail ready = false
+hasMail (receiving bs) = true
+hasMail (executing bs) = true
+hasMail (answering a k) = true
+
+-- "0018..001A STS; 0024..0027 FIFO"
+abbrev pub isPort : ℕ → Bool
+isPort o = within 0x18 0x1a (o % 0x1000) || isFifo o
 
 -- ---- what ends a run before it is answered
 
@@ -115,18 +130,23 @@ pub record Owned (c : ℕ) (m : Model) (p : Mail) (t : Trail) (s : State) : Type
   -- in Execution the window shows the bytes that the active locality wrote at its FIFO since the 40h that left Idle, in order, as many as it
   -- declared; later ones are ignored
   pub shows : (bs : List ℕ) → p .box ≡ executing bs → called window s .answer ≡ record { refusal = 0; value = bytes (take (sizeOf (t .sent)) (t .sent)) }
-  -- whose command runs wrote its go, and so did who has an answer to read: an answer reaches only the locality that started its run
+  -- the locality whose command runs, or whose answer is there, is the one that wrote the go: an answer reaches only the locality that started its run
   pub runs : (bs : List ℕ) → p .box ≡ executing bs → m .active ≡ held (t .starter)
   pub has : (a : List ℕ) (k : ℕ) → p .box ≡ answering a k → m .active ≡ held (t .starter)
+  -- and it has been active ever since: no call changes the active locality and leaves a command or an answer
+  pub stays : (k : Call) → hasMail (mailStep c m p (entryOf k (refusalOf k s)) .box) ≡ true → step m (happens k s) .active ≡ m .active
+  -- an answer that is there was there before the call, or is the one that an accepted call of the engine brought, or is the 19h answer
+  pub comes : (k : Call) (a : List ℕ) (j : ℕ) → mailStep c m p (entryOf k (refusalOf k s)) .box ≡ answering a j
+      → ((i : ℕ) × (p .box ≡ answering a i)) ⊎ ((run : ℕ) × (k ≡ respond run a) × (refusalOf k s ≡ accepted)) ⊎ (a ≡ badSizeAnswer)
   -- an accepted answer is one to the run that is in Execution
   pub accepts : (run : ℕ) (a : List ℕ) → refusalOf (respond run a) s ≡ accepted → (bs : List ℕ) × (p .box ≡ executing bs) × (p .run ≡ run)
   -- a byte that the active locality reads from its FIFO, with bytes unread, is the next one of that answer, counted from the entry into
   -- Completion or from the last 02h
   pub reads : (o : ℕ) → o ≤ 0x4fff → isFifo o ≡ true → isActive (m .active) (o / 0x1000) ≡ true → (a : List ℕ) (k : ℕ) → p .box ≡ answering a k → k < length a
       → called (read o) s .answer ≡ record { refusal = 0; value = byte (getD a k 0) }
-  -- any other locality reads FFh, and its writes at STS and FIFO leave no trace
+  -- any other locality reads FFh from its FIFO, and its writes at STS and FIFO leave no trace
   pub others : (o : ℕ) → o ≤ 0x4fff → isFifo o ≡ true → isActive (m .active) (o / 0x1000) ≡ false → called (read o) s ≡ gives 0 (byte 0xff) s
-  pub traceless : (o v : ℕ) → o ≤ 0x4fff → (isSts o || isFifo o) ≡ true → isActive (m .active) (o / 0x1000) ≡ false → called (write o v) s ≡ gives 0 nothing s
+  pub traceless : (o v : ℕ) → o ≤ 0x4fff → isPort o ≡ true → isActive (m .active) (o / 0x1000) ≡ false → called (write o v) s ≡ gives 0 nothing s
   -- a run is answered by the first answer that carries its number and has 10 to C bytes, unless something ended it before
   pub answered : (bs : List ℕ) → p .box ≡ executing bs → (cs : List Call) → Undisturbed c (p .run) m s cs → (a : List ℕ) → 10 ≤ length a → length a ≤ c
       → refusalOf (respond (p .run) a) (after s cs) ≡ accepted
@@ -136,6 +156,6 @@ OwnedAfter s₀ h s =
     let c : ℕ = length (s₀ .writeFifo) in
     StartsAccepted h → Owned c (modelAfter h) (mailAfter c h) (trailAfter c h) s
 
--- after every list of calls that starts with an accepted power-on
+-- after every list of calls that starts with an accepted power-on; `Progress` says when one is
 abbrev pub OwnedClaim : Type 0
 OwnedClaim = OverLists OwnedAfter

@@ -2,7 +2,7 @@
 -- nothing.
 use mathlib.Core.Path.{_≡_}
 use mathlib.Core.Bool.{Bool, true, false}
-use mathlib.Core.List.{List}
+use mathlib.Core.List.{List, [], _∷_, _++_}
 use mathlib.Core.Logic.{_⊎_}
 use Prim.Native.Nat.{ℕ, suc, _<_, _≤_}
 use lib.ListN.{take}
@@ -12,7 +12,7 @@ use Rattle.arbiter_model.specs.Claims.{Arbitrated}
 use Rattle.arbiter.specs.State.{waits}
 use Rattle.arbiter.specs.Agreement.{Agrees, holder}
 use Rattle.record.specs.declared.Device.{Device}
-use Rattle.claims.specs.Calls.{Call, State, Answer, Lent, handed, lentLeft, lentAfter, lentHeard, OverLent}
+use Rattle.claims.specs.Calls.{Call, isPowerOn, State, Answer, Lent, handed, lentLeft, lentAfter, lentHeard, OverLent}
 use Rattle.claims.specs.Events.{happens, events, modelAfter}
 
 -- the record's active locality, or none
@@ -42,7 +42,7 @@ Served often d m x k =
     -- the list has that many handovers, or more
     → bound x k ≤ handovers m (events (lentHeard d ks))
     -- then among its calls there is one that makes x active: up to it x waits, and fewer handovers than that come before it
-    → (n : ℕ) × (waitsIn (lentAfter d (take n ks)) x ≡ true) × (activeIn (lentAfter d (take (suc n) ks)) ≡ held x)
+    → (n : ℕ) × ((j : ℕ) → j ≤ n → waitsIn (lentAfter d (take j ks)) x ≡ true) × (activeIn (lentAfter d (take (suc n) ks)) ≡ held x)
     × (handovers m (events (lentHeard d (take n ks))) < bound x k)
 
 -- what holds of the record d after calls whose model is m
@@ -76,6 +76,13 @@ Demand3After h d = Demand3 (modelAfter h) d
 -- the claim: after each call of every list that starts with a power-on, whatever FIFOs each call is lent
 abbrev pub DemandThree : Type 0
 DemandThree = OverLent Demand3After
+
+-- in the user's words, "counted from the request that began the wait": calls before, the request c of x while y is active, and calls after it, in
+-- which the handovers are counted
+abbrev pub FromRequest : Type 0
+FromRequest = (d : Device) (first : Lent) → isPowerOn (first .call) ≡ true → (before : List Lent) (c : Lent) (x y k : ℕ) → x < 5
+    → occurs c (lentAfter d (first ∷ before)) ≡ access x requestUse → activeIn (lentAfter d (first ∷ before)) ≡ held y → (y ≡ x → ⊥)
+    → Served written (lentAfter d (first ∷ before ++ (c ∷ []))) (modelAfter (lentHeard d (first ∷ before ++ (c ∷ [])))) x k
 
 -- the same where each call is lent what the last one left
 abbrev pub Demand3Handed : State → List (Call × Answer) → State → Type 0

@@ -28,7 +28,7 @@ before =
     ∷ writes 0x2000 0x02 ∷ []
 
 -- 4 is served, and its hash sequence's end is a handover too; 4 and 3 ask once more and are served again; then 2. Between them stand
--- calls that count for nothing: a read, 2's second request, seizures of equals and higher, cleared marks, refused calls
+-- calls that count for nothing: a read, 2's second request, attempts to seize from an equal or a higher locality, cleared marks, refused calls
 abbrev pub later : List Lent
 later =
     writes 0x1000 0x20 ∷ writes 0x2000 0x02 ∷ with1024 (read 0x2000) ∷ writes 0x4028 0x00

@@ -100,7 +100,7 @@ stateOf c h =
     let p : Mail = mailAfter c h in
     state (deviceOf (modelAfter h) p (signalsAfter c h) (streamAfter h) (valuesAfter h) (identityAfter h)) (padded c (commandOf (p .box))) (padded c (answerOf (p .box)))
 
--- ---- the claim: after every list of calls that starts with an accepted power-on
+-- ---- the claim: after every list of calls that starts with an accepted power-on; `Progress` says when one is
 
 abbrev pub GivenAfter : State → List (Call × Answer) → State → Type 0
 GivenAfter s₀ h s = StartsAccepted h → s ≡ stateOf (length (s₀ .writeFifo)) h

@@ -202,6 +202,6 @@ pub record Mailed (c : ℕ) (p : Mail) (s : State) : Type 0 where
 abbrev pub MailedAfter : State → List (Call × Answer) → State → Type 0
 MailedAfter s₀ h s = StartsAccepted h → Mailed (length (s₀ .writeFifo)) (mailAfter (length (s₀ .writeFifo)) h) s
 
--- after every list of calls that starts with an accepted power-on
+-- after every list of calls that starts with an accepted power-on; `Progress` says when one is
 abbrev pub MailboxClaim : Type 0
 MailboxClaim = OverLists MailedAfter

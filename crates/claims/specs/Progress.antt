@@ -20,7 +20,7 @@ abbrev pub overlong : Device → ℕ → Bool
 overlong d o = d .launch .sequence && within 0x4024 0x4027 o && leb 1048576 (d .launch .stream .count)
 
 -- "1 bus offset above 4FFFh; .. 3 engine answer while not in Execution, or with another run number; 4 engine answer shorter than 10 or longer
--- than C; 5 question about a PCR above 23 or a locality above 4", and 7; c is C
+-- than C; 5 question with PCR above 23 or locality above 4", and 7; c is C
 abbrev pub refusalIn : ℕ → Device → Call → ℕ
 refusalIn c d (powerOn established identity) = 0
 refusalIn c d reset = 0
@@ -79,6 +79,8 @@ lastPowered d (c ∷ cs) = lastPowered (poweredBy (c .0) d) cs
 
 -- s₀ was handed to the power-on; h is what was heard, s what is left
 pub record Halts (s₀ : State) (h : List (Call × Answer)) (s : State) : Type 0 where
+  -- 2 is given for "a FIFO length outside 1,024..4,096, or the two differ", and for nothing else
+  pub lengths : (leb 1024 (length (s₀ .writeFifo)) && leb (length (s₀ .writeFifo)) 4096 && eqb (length (s₀ .writeFifo)) (length (s₀ .readFifo))) ≡ false
   -- "a refused power-on gives the fresh record and leaves the FIFOs alone"
   pub device : s .device ≡ lastPowered (s₀ .device) h
   pub writeFifo : s .writeFifo ≡ s₀ .writeFifo

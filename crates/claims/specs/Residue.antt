@@ -52,6 +52,6 @@ pub record NoResidue (s : State) : Type 0 where
 abbrev pub NoResidueAfter : State → List (Call × Answer) → State → Type 0
 NoResidueAfter s₀ h s = StartsAccepted h → NoResidue s
 
--- the claim: after every list of calls that starts with an accepted power-on
+-- the claim: after every list of calls that starts with an accepted power-on; `Progress` says when one is
 abbrev pub ResidueClaim : Type 0
 ResidueClaim = OverLists NoResidueAfter

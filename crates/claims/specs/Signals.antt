@@ -174,6 +174,6 @@ pub record Signalled (g : Signals) (s : State) : Type 0 where
 abbrev pub SignalledAfter : State → List (Call × Answer) → State → Type 0
 SignalledAfter s₀ h s = StartsAccepted h → Signalled (signalsAfter (length (s₀ .writeFifo)) h) s
 
--- after every list of calls that starts with an accepted power-on
+-- after every list of calls that starts with an accepted power-on; `Progress` says when one is
 abbrev pub SignalsClaim : Type 0
 SignalsClaim = OverLists SignalledAfter

@@ -1,12 +1,16 @@
 -- The sheet on the calls' own contracts: whoever plays an entry by steps that the contracts allow sees what the sheet wants. Assumes nothing.
-use mathlib.Core.Path.{_≡_, refl, sym, ap, _∙_}
+use mathlib.Core.Path.{_≡_, refl, sym, ap, _∙_, subst}
+use mathlib.Core.Bool.{false}
+use lib.ListN.{replicate}
 use mathlib.Core.List.{List, [], _∷_}
 use Prim.Native.Nat.{ℕ}
 use Rattle.record.specs.declared.Device.{Device}
+use Rattle.record_shape.specs.Shape.{lengthsAllowed}
+use Rattle.call_power.specs.Power.{powerOn}
 use Rattle.claims.specs.Calls as call
-use Rattle.claims.specs.Calls.{Call, State, Answer, Called, called, left}
+use Rattle.claims.specs.Calls.{Call, State, state, Answer, Called, called, left}
 use Rattle.claims.proofs.Steps.{Step}
-use Rattle.claims.proofs.Bridge.{step-called}
+use Rattle.claims.proofs.Bridge.{step-called, called-step}
 use Rattle.conformance_claim.specs.Sheet.{Line, write, ignored, reads, refused, run, answer, reset, shows, Seen, number, answered, all, fresh, checks, gots, wants, sheet, Each}
 use Rattle.conformance_claim.proofs.SheetHolds.{sheet-holds}
 
@@ -53,5 +57,23 @@ each-plays : (s : State) (l : List (List Line)) → Each s l → EachPlays s l
 each-plays s [] h = h
 each-plays s (e ∷ l) h = (λ z p. plays-gots p ∙ h .0, each-plays s l (h .1))
 
-pub sheet-on-contracts : (d : Device) → EachPlays (fresh d) sheet
-sheet-on-contracts d = each-plays (fresh d) sheet (sheet-holds d)
+-- there is a play of every entry
+pub plays : (s : State) (l : List Line) → (z : List Seen) × Plays s l z
+plays s [] = ([], none)
+plays s (write o v ∷ l) = let k : _ = plays (left (call.write o v) s) l in (answered _ ∷ k .0, writes (called-step (call.write o v) s) (k .1))
+plays s (ignored o v ∷ l) = let k : _ = plays (left (call.write o v) s) l in (answered _ ∷ all _ ∷ k .0, ignores (called-step (call.write o v) s) (k .1))
+plays s (reads o v ∷ l) = let k : _ = plays (left (call.read o) s) l in (answered _ ∷ k .0, looks (called-step (call.read o) s) (k .1))
+plays s (refused o n ∷ l) =
+    let t : State = left (call.read o) s in
+    let k : _ = plays (left (call.write o 0x00) t) l in
+    (answered _ ∷ all _ ∷ answered _ ∷ all _ ∷ k .0, refuses (called-step (call.read o) s) (called-step (call.write o 0x00) t) (k .1))
+plays s (run n ∷ l) = let k : _ = plays s l in (number _ ∷ k .0, counts (k .1))
+plays s (answer n r b ∷ l) = let k : _ = plays (left (call.respond r b) s) l in (answered _ ∷ k .0, responds (called-step (call.respond r b) s) (k .1))
+plays s (reset ∷ l) = let k : _ = plays (left call.reset s) l in (answered _ ∷ k .0, restarts (called-step call.reset s) (k .1))
+plays s (shows b ∷ l) = let k : _ = plays s l in (answered _ ∷ k .0, views (called-step call.window s) (k .1))
+
+-- the power-on that every entry begins with is accepted, and from what it leaves every play shows what is wanted
+pub sheet-on-contracts : {d : Device} {a : Answer} {s : State} → Step (call.powerOn false (replicate 5 0)) (state d (replicate 1024 0) (replicate 1024 0)) a s
+    → (a .refusal ≡ 0) × EachPlays s sheet
+unfolding powerOn lengthsAllowed
+sheet-on-contracts {d} p = subst (λ (k : Called). (k .answer .refusal ≡ 0) × EachPlays (k .left) sheet) (step-called p) (refl, each-plays (fresh d) sheet (sheet-holds d))

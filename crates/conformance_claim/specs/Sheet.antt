@@ -1,5 +1,5 @@
 -- The bench sheet (document 01, 'Bench sheet (C = 1,024, not established)'): P1 to P12, each a list of calls from a fresh power-on,
--- with what each of them has to give, and further entries of our own. Its numerals are the paper's. Assumes nothing.
+-- with what each of them has to give, and further entries of our own. The numerals of P1 to P12 are the paper's. Assumes nothing.
 use Prim.Native.Nat.{ℕ, zero, suc, _+_, _%_}
 use mathlib.Core.Path.{_≡_}
 use mathlib.Core.Bool.{false}
@@ -179,7 +179,7 @@ p10 = p7 ++ (send (head 0x04 0x00) ++ complete 1017 ++ runs 1 (head 0x04 0x00 ++
 
 -- ".. 1,025 is answered 19h after 1,024 bytes."
 abbrev pub p10′ : List Line
-p10′ = p7 ++ (send (head 0x04 0x01) ++ complete 1017 ++ (write 0x0018 0x20 ∷ run 0 ∷ reads 0x0018 0x90 ∷ []) ++ receive badSize)
+p10′ = p7 ++ (send (head 0x04 0x01) ++ complete 1017 ++ (shows (head 0x04 0x01 ++ free 6 1018) ∷ write 0x0018 0x20 ∷ run 0 ∷ reads 0x0018 0x90 ∷ []) ++ receive badSize)
 
 -- "P11 size 1,024, burst at 960 received: 64; at 961: 63; at 1,023: 1."
 abbrev pub p11 : List Line
@@ -198,13 +198,13 @@ p12 = reads 0x4fff 0xff ∷ refused 0x5000 1 ∷ []
 abbrev pub seizures : List Line
 seizures = write 0x2000 0x02 ∷ ignored 0x2000 0x08 ∷ ignored 0x1000 0x08 ∷ reads 0x2000 0xa1 ∷ []
 
--- a seizure marks who is seized and sets no localityChange; a handover sets it if somebody waits, and not if nobody does; the mark is cleared by
+-- a seizure marks who is seized and sets no localityChange; a handover sets it if somebody waits, and else leaves it as it is; the mark is cleared by
 -- its locality alone
 abbrev pub marks : List Line
 marks =
     write 0x0000 0x02 ∷ write 0x2000 0x08 ∷ reads 0x0000 0x91 ∷ reads 0x2000 0xa1 ∷ reads 0x2010 0x00
-    ∷ write 0x1000 0x02 ∷ write 0x2000 0x20 ∷ reads 0x1000 0xa1 ∷ reads 0x1010 0x04 ∷ write 0x1010 0x04 ∷ reads 0x1010 0x00
-    ∷ write 0x1000 0x20 ∷ reads 0x1000 0x81 ∷ reads 0x1010 0x00 ∷ write 0x1000 0x10 ∷ reads 0x0000 0x91 ∷ write 0x0000 0x10 ∷ reads 0x0000 0x81 ∷ []
+    ∷ write 0x1000 0x02 ∷ write 0x2000 0x20 ∷ reads 0x1000 0xa1 ∷ reads 0x1010 0x04 ∷ write 0x1000 0x20 ∷ reads 0x1010 0x04
+    ∷ write 0x1000 0x02 ∷ write 0x1010 0x04 ∷ reads 0x1010 0x00 ∷ write 0x1000 0x20 ∷ reads 0x1000 0x81 ∷ reads 0x1010 0x00 ∷ write 0x1000 0x10 ∷ reads 0x0000 0x91 ∷ write 0x0000 0x10 ∷ reads 0x0000 0x81 ∷ []
 
 -- a start that counts sets established, and a reset keeps it
 abbrev pub established : List Line
@@ -217,7 +217,7 @@ interrupts =
     ∷ reads 0x1008 0x8d ∷ reads 0x2008 0x8d ∷ reads 0x400b 0x80
     ∷ write 0x1018 0x40 ∷ reads 0x0010 0x80 ∷ write 0x0010 0x80 ∷ reads 0x1010 0x80 ∷ write 0x1010 0x80 ∷ reads 0x3010 0x00 ∷ []
 
--- in Completion a locality that is not active reads FFh at STS and FIFO, and moves nothing
+-- in Completion a locality that is not active reads FFh at STS and FIFO, and what the active one reads goes on as if it were not there
 abbrev pub onlookers : List Line
 onlookers =
     p7
