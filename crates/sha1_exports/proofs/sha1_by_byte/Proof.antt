@@ -11,7 +11,12 @@ returns-2 : tie.Need-returns-2
 returns-2 c = too-long _ _ _ (c .before .if1 .left) (c .if2 .taken)
 
 returns-3 : tie.Need-returns-3
-returns-3 c = hashed _ _ _ _ _ (c .before .before .before .before .before .before .before .if1 .left) (c .before .before .before .before .before .before .if2 .left) (search needs) (c .before .before .before .before .before .by-byte .ensures) (c .before .before .copy .ensures .1)
+returns-3 c =
+    let copied = c .before .before in
+    let digested = copied .before .before .before in
+    let fitting = digested .before in
+    let roomy = fitting .before in
+    hashed _ _ _ _ _ (roomy .if1 .left) (fitting .if2 .left) (search needs) (digested .by-byte .ensures) (copied .copy .ensures .1)
 
 pub sha1-by-byte-spec : {M : Type 1} → statement M
 sha1-by-byte-spec =

@@ -8,13 +8,25 @@ use Rattle.sha1.proofs.oneshot.extend.Statement.{statement}
 use Rattle.sha1.proofs.oneshot.extend.Tie as tie
 
 slice-aggregate-hash : tie.Need-slice-aggregate-hash
-slice-aggregate-hash c = sym (forty-long (c .before .before .before .before .before .before .before .before .before .args .t1) (c .before .before .before .before .before .before .before .before .before .args .t2) _ _ (search needs) (search needs) (c .before .before .before .before .before .before .copy .ensures .1) (c .before .before .copy2 .ensures .1))
+slice-aggregate-hash c =
+    let second = c .before .before in
+    let first = second .before .before .before .before in
+    let entry = first .before .before .before in
+    sym (forty-long (entry .args .t1) (entry .args .t2) _ _ (search needs) (search needs) (first .copy .ensures .1) (second .copy2 .ensures .1))
 
 hash-requires : tie.Need-hash-requires
-hash-requires c κs = omega (arith, forty-long (c .before .before .before .before .before .before .before .before .before .args .t1) (c .before .before .before .before .before .before .before .before .before .args .t2) _ _ (search needs) (search needs) (c .before .before .before .before .before .before .copy .ensures .1) (c .before .before .copy2 .ensures .1))
+hash-requires c κs =
+    let second = c .before .before in
+    let first = second .before .before .before .before in
+    let entry = first .before .before .before in
+    omega (arith, forty-long (entry .args .t1) (entry .args .t2) _ _ (search needs) (search needs) (first .copy .ensures .1) (second .copy2 .ensures .1))
 
 returns : tie.Need-returns
-returns c = c .hash .ensures ∙ ap sha1 (forty (c .before .before .before .before .before .before .before .before .before .before .args .t1) (c .before .before .before .before .before .before .before .before .before .before .args .t2) _ _ (search needs) (search needs) (c .before .before .before .before .before .before .before .copy .ensures .1) (c .before .before .before .copy2 .ensures .1))
+returns c =
+    let second = c .before .before .before in
+    let first = second .before .before .before .before in
+    let entry = first .before .before .before in
+    c .hash .ensures ∙ ap sha1 (forty (entry .args .t1) (entry .args .t2) _ _ (search needs) (search needs) (first .copy .ensures .1) (second .copy2 .ensures .1))
 
 pub extend-spec : {M : Type 1} → statement M
 extend-spec =

@@ -15,7 +15,13 @@ unfolding digestOf
 five-words h p q r s t e₀ e₁ e₂ e₃ e₄ = rw (e₄, e₃, e₂, e₁, e₀) refl
 
 returns : tie.Need-returns
-returns c = five-words _ _ _ _ _ _ (c .before .before .before .before .before .before .before .before .before .before .before .before .before .store .ensures) (c .before .before .before .before .before .before .before .before .before .before .store2 .ensures) (c .before .before .before .before .before .before .before .store3 .ensures) (c .before .before .before .before .store4 .ensures) (c .before .store5 .ensures)
+returns c =
+    let fifth = c .before in
+    let fourth = fifth .before .before .before in
+    let third = fourth .before .before .before in
+    let second = third .before .before .before in
+    let first = second .before .before .before in
+    five-words _ _ _ _ _ _ (first .store .ensures) (second .store2 .ensures) (third .store3 .ensures) (fourth .store4 .ensures) (fifth .store5 .ensures)
 
 pub digest-spec : {M : Type 1} → statement M
 digest-spec =
