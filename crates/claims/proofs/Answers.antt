@@ -44,12 +44,13 @@ use Rattle.claims.specs.Calls.{Call, powerOn, read, write, respond, wind
 use Rattle.claims.specs.Events.{written, answered, entryOf, eventFor, happens, events, modelAfter}
 use Rattle.record_shape.specs.Shape as shape
 use Rattle.claims.specs.Mailbox as mailbox
-use Rattle.claims.specs.Mailbox.{Mailbox, idle, ready, receiving, executing, answering, Mail, mail, sizeOf, fetched, isActive, isSts, isFifo, mailStep, mailFrom, phaseOf, badSizeAnswer, moreExpected, readied, gone, retried, ordered, stored, byActive, answerOf}
+use Rattle.claims.specs.Mailbox.{Mailbox, idle, ready, receiving, executing, answering, Mail, mail, sizeOf, afterFetch, isActive, isStsCommand, isFifo, mailStep, mailFrom, phaseOf, badSizeAnswer, moreExpected, afterCommandReady, afterTpmGo, afterRetry, afterSts, afterByte, byActive, answerOf}
 use Rattle.claims.specs.Answers.{Trail, trail, trailStep, trailFrom, endsRun, isPort, fits, answersRun, Undisturbed, Owned, OwnedClaim, hasMail}
 use Rattle.claims.proofs.CallCases.{CallCase, same, powers, resets, looks, reads, writes, responds, call-case}
 use Rattle.claims.proofs.Padded.{byte-padded}
 use Rattle.claims.proofs.Mailbox.{active-same, write-length, Kept, one-kept, all-kept, first-kept}
-use Rattle.claims.proofs.Progress.{Placed, sequence-then, one-placed, book-fits, bus-value, works, power-placed, all-placed}
+use Rattle.claims.proofs.Progress.{Placed, one-placed, book-fits, bus-value, works, power-placed, all-placed}
+use Rattle.claims.proofs.Launch.{sequence-then}
 use Rattle.claims.proofs.Trail.{Taken, Told, still-fetched, written-told, goes-on}
 
 -- ---- call by call
@@ -74,7 +75,7 @@ module _ {c : ℕ} {m : Model} {q : Mail} (s : State) (h : Kept c m q s) where
       → Told c (step m (happens k s)) (mailStep c m q (entryOf k (refusalOf k s)) .box) (trailStep c m (q .box) t (entryOf k (refusalOf k s)))
   one-told t d k = by (call-case k s)
     where
-      read-on : (u : Bool) → Told c m (cond u (mail (fetched (q .box)) (q .run)) q .box) t
+      read-on : (u : Bool) → Told c m (cond u (mail (afterFetch (q .box)) (q .run)) q .box) t
       read-on true = still-fetched c m (q .box) t d
       read-on false = d
 
@@ -114,7 +115,7 @@ module _ {c : ℕ} {m : Model} {q : Mail} (s : State) (h : Kept c m q s) where
       is : q ≡ mail (executing bs) (q .run)
       is = ap (λ (b : Mailbox). mail b (q .run)) e
 
-      read-on : (u : Bool) → cond u (mail (fetched (q .box)) (q .run)) q ≡ q
+      read-on : (u : Bool) → cond u (mail (afterFetch (q .box)) (q .run)) q ≡ q
       read-on true = rw e refl
       read-on false = refl
 
@@ -177,7 +178,7 @@ module _ {a : List ℕ} {j : ℕ} where
   this-one : {x : List ℕ} {i : ℕ} → answering x i ≡ answering a j → x ≡ a
   this-one e = ap answerOf e
 
-  fetched-comes : (b : Mailbox) → fetched b ≡ answering a j → (i : ℕ) × (b ≡ answering a i)
+  fetched-comes : (b : Mailbox) → afterFetch b ≡ answering a j → (i : ℕ) × (b ≡ answering a i)
   fetched-comes idle e = none-there idle refl e
   fetched-comes ready e = none-there ready refl e
   fetched-comes (receiving bs) e = none-there (receiving bs) refl e
@@ -189,14 +190,14 @@ module _ {a : List ℕ} {j : ℕ} where
       by false e = (i, ap (λ (z : List ℕ). answering z i) (this-one e))
 
   module _ (c v : ℕ) (q : Mail) (k : Call) (n : ℕ) where
-    readied-comes : (b : Mailbox) → readied b ≡ answering a j → Comes b k n a
+    readied-comes : (b : Mailbox) → afterCommandReady b ≡ answering a j → Comes b k n a
     readied-comes idle e = none-there ready refl e
     readied-comes ready e = none-there ready refl e
     readied-comes (receiving bs) e = none-there idle refl e
     readied-comes (executing bs) e = none-there idle refl e
     readied-comes (answering x i) e = none-there idle refl e
 
-    gone-comes : (b : Mailbox) (r : ℕ) → gone c b r .box ≡ answering a j → Comes b k n a
+    gone-comes : (b : Mailbox) (r : ℕ) → afterTpmGo c b r .box ≡ answering a j → Comes b k n a
     gone-comes idle r e = inl (j, e)
     gone-comes ready r e = inl (j, e)
     gone-comes (receiving bs) r e = by (moreExpected c bs) (leb 10 (sizeOf bs) && leb (sizeOf bs) c) e
@@ -208,14 +209,14 @@ module _ {a : List ℕ} {j : ℕ} where
     gone-comes (executing bs) r e = inl (j, e)
     gone-comes (answering x i) r e = inl (j, e)
 
-    retried-comes : (b : Mailbox) → retried b ≡ answering a j → Comes b k n a
+    retried-comes : (b : Mailbox) → afterRetry b ≡ answering a j → Comes b k n a
     retried-comes idle e = inl (j, e)
     retried-comes ready e = inl (j, e)
     retried-comes (receiving bs) e = inl (j, e)
     retried-comes (executing bs) e = inl (j, e)
     retried-comes (answering x i) e = inl (i, ap (λ (z : List ℕ). answering z i) (this-one e))
 
-    stored-comes : (b : Mailbox) → stored c v b ≡ answering a j → Comes b k n a
+    stored-comes : (b : Mailbox) → afterByte c v b ≡ answering a j → Comes b k n a
     stored-comes idle e = inl (j, e)
     stored-comes ready e = none-there (receiving (v ∷ [])) refl e
     stored-comes (receiving bs) e = by (moreExpected c bs) e
@@ -226,22 +227,22 @@ module _ {a : List ℕ} {j : ℕ} where
     stored-comes (executing bs) e = inl (j, e)
     stored-comes (answering x i) e = inl (j, e)
 
-    ordered-comes : ordered c v q .box ≡ answering a j → Comes (q .box) k n a
+    ordered-comes : afterSts c v q .box ≡ answering a j → Comes (q .box) k n a
     ordered-comes e = by (eqb (bit 6 v + bit 5 v + bit 1 v) 1) (eqb (bit 6 v) 1) (eqb (bit 5 v) 1) e
       where
-        by : (t₁ t₂ t₃ : Bool) → cond t₁ (cond t₂ (mail (readied (q .box)) (q .run)) (cond t₃ (gone c (q .box) (q .run)) (mail (retried (q .box)) (q .run)))) q .box ≡ answering a j → Comes (q .box) k n a
+        by : (t₁ t₂ t₃ : Bool) → cond t₁ (cond t₂ (mail (afterCommandReady (q .box)) (q .run)) (cond t₃ (afterTpmGo c (q .box) (q .run)) (mail (afterRetry (q .box)) (q .run)))) q .box ≡ answering a j → Comes (q .box) k n a
         by true true t₃ e = readied-comes (q .box) e
         by true false true e = gone-comes (q .box) (q .run) e
         by true false false e = retried-comes (q .box) e
         by false t₂ t₃ e = inl (j, e)
 
-    written-comes : (x y z : Bool) → cond x (mail idle (q .run)) (cond y (ordered c v q) (cond z (mail (stored c v (q .box)) (q .run)) q)) .box ≡ answering a j → Comes (q .box) k n a
+    written-comes : (x y z : Bool) → cond x (mail idle (q .run)) (cond y (afterSts c v q) (cond z (mail (afterByte c v (q .box)) (q .run)) q)) .box ≡ answering a j → Comes (q .box) k n a
     written-comes true y z e = none-there idle refl e
     written-comes false true z e = ordered-comes e
     written-comes false false true e = stored-comes (q .box) e
     written-comes false false false e = inl (j, e)
 
-  read-comes : (q : Mail) (k : Call) (n : ℕ) (t : Bool) → cond t (mail (fetched (q .box)) (q .run)) q .box ≡ answering a j → Comes (q .box) k n a
+  read-comes : (q : Mail) (k : Call) (n : ℕ) (t : Bool) → cond t (mail (afterFetch (q .box)) (q .run)) q .box ≡ answering a j → Comes (q .box) k n a
   read-comes q k n true e = inl (fetched-comes (q .box) e)
   read-comes q k n false e = inl (j, e)
 
@@ -252,7 +253,7 @@ call-comes c m q (powers k) e = none-there idle refl e
 call-comes c m q (resets i) e = none-there idle refl e
 call-comes c m q (looks {o = o} i) e = read-comes q (read o) accepted (isActive (m .active) (o / 0x1000) && isFifo o) e
 call-comes c m q (reads {o = o} i h) e = read-comes q (read o) accepted (isActive (m .active) (o / 0x1000) && isFifo o) e
-call-comes c m q (writes {o = o} {v = v} w) e = written-comes c v q (write o v) accepted (mailbox.aborts m (writeEvent o v)) (byActive m o && isSts o) (byActive m o && isFifo o) e
+call-comes c m q (writes {o = o} {v = v} w) e = written-comes c v q (write o v) accepted (mailbox.aborts m (writeEvent o v)) (byActive m o && isStsCommand o) (byActive m o && isFifo o) e
 call-comes c m q (responds {run = r} i) e = inr (inl (r, ap (respond r) (this-one e), refl))
 
 -- ---- the claim

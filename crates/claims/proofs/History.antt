@@ -33,7 +33,7 @@ use Rattle.claims.specs.Mailbox.{idle, Mail, mail, mailStep, mailFrom, c
 use Rattle.claims.specs.Signals.{Signals, quiet, signalsStep, signalsFrom}
 use Rattle.claims.specs.History.{freshValues, valuesWritten, valuesStep, valuesFrom, identityStep, identityFrom, ownerOf, listed, deviceOf, HistoryIsAll}
 use Rattle.claims.proofs.CallCases.{CallCase, same, powers, resets, looks, reads, writes, responds, call-case}
-use Rattle.claims.proofs.Launch.{counts-same, power-streams, call-streams, ZeroedIn, power-zeroed, call-zeroed, PcrStep, started, ended, kept, pcr-step}
+use Rattle.claims.proofs.Launch.{counts-same, power-streams, call-streams, ZeroedIn, power-zeroed, call-zeroed, LaunchStep, started, ended, kept, launch-step}
 use Rattle.claims.proofs.Mailbox.{Kept, one-kept, first-kept}
 use Rattle.claims.proofs.Signals.{Signed, one-signed, first-signed}
 
@@ -68,7 +68,7 @@ power-valued (power.refused e) = fresh-valued _ _ _
 power-valued (power.powered e) = fresh-valued _ _ _
 
 module _ (m : Model) (bs : List ℕ) (w : ℕ → List ℕ) (s : State) (a : Keeps m (s .device)) (t : Stands (s .device .launch) bs) (b : ZeroedIn (s .device)) (v : Valued (s .device) w) where
-  step-valued : (o : ℕ) {bank : List Pcr} → PcrStep (s .device) o bank → (p : ℕ) → p < pcrs → valueAt bank p ≡ valuesWritten m bs w o p
+  step-valued : (o : ℕ) {bank : List Pcr} {f : Bool} → LaunchStep (s .device) o bank f → (p : ℕ) → p < pcrs → valueAt bank p ≡ valuesWritten m bs w o p
   step-valued o (started i j) p l = rw (i, counts-same a ∙ j) (launched-at (s .device .pcrs) p (b .whole) ∙ ap (λ (y : List ℕ). cond (isLaunchPcr p) (replicate 20 0x00) y) (v p l))
   step-valued o (ended i j k) p l =
       rw (i, j, a .sequenceOpen ∙ k)
@@ -90,7 +90,7 @@ module _ (m : Model) (bs : List ℕ) (w : ℕ → List ℕ) (s : State) (a : Kee
   one-valued (resets e) = fresh-valued _ _ _
   one-valued (looks e) = v
   one-valued (reads i e) = v
-  one-valued (writes {o = o} k) = step-valued o (pcr-step k)
+  one-valued (writes {o = o} k) = step-valued o (launch-step k)
   one-valued (responds e) = v
 
 -- ---- the identity bytes

@@ -64,6 +64,11 @@ counts-same {m} {s} a = ap startCounts (a .active) ∙ by (s .active)
     by Nobody = refl
     by (Held y) = refl
 
+-- a page that is ignored but for hash data has a sequence open
+pub sequence-then : (o : ℕ) (sequence : Bool) → hashPage o sequence ≡ true → sequence ≡ true
+sequence-then o true h = refl
+sequence-then o false h = h
+
 -- data outside an open sequence does not join
 pub closed-data : (o : ℕ) (sequence : Bool) → hashPage o sequence ≡ false → inFour hashData o ≡ true → sequence ≡ false
 closed-data o true h i = rw (eq-eqb (pageOf o) 4 (data-page o i .0)) at h
@@ -110,15 +115,11 @@ module _ (m : Model) (bs : List ℕ) (d : Device) (o v : ℕ) (a : Agrees m (d .
   ignored (missed u h n i) = stays u (closed-data o (d .launch .sequence) h)
   ignored (registerIgnored u h n i) = stays u (closed-data o (d .launch .sequence) h)
 
-  open-page : (sequence : Bool) → hashPage o sequence ≡ true → sequence ≡ true
-  open-page true h = refl
-  open-page false h = h
-
   write-streams : {d′ : Device} {w r w′ r′ : List ℕ} → Writes d w r o v d′ w′ r′ → Streams (d′ .launch)
   write-streams (starts i j) = rw (stream-start m bs o v i (counts-same a ∙ j)) (record { opened = λ e. sym (all-none begin); closed = λ e. absurd (true≢false e) })
   write-streams (ends i j k) = rw (stream-end m bs o v i j (a .sequenceOpen ∙ k)) (stands-closed _ [] refl refl)
   write-streams (joins u h i l) =
-      let e : d .launch .sequence ≡ true = open-page (d .launch .sequence) h in
+      let e : d .launch .sequence ≡ true = sequence-then o (d .launch .sequence) h in
       rw (stream-data m bs o v u i (a .sequenceOpen ∙ e))
       (record {
         opened = λ q. ap (λ (z : Stream). join z v) (t .opened q) ∙ sym (all-snoc bs v begin);
@@ -189,21 +190,21 @@ call-zeroed (reads i e) b = b
 call-zeroed (writes k) b = write-zeroed k b
 call-zeroed (responds e) b = b
 
--- ---- what an accepted write does to the PCRs
+-- ---- what an accepted write does to the PCRs and to the established flag
 
-pub data PcrStep (d : Device) (o : ℕ) : List Pcr → Type 0 where
-  started : inFour hashStart o ≡ true → rule.startCounts (owner d) ≡ true → PcrStep d o (launched (d .pcrs))
-  ended : inFour hashStart o ≡ false → inFour hashEnd o ≡ true → d .launch .sequence ≡ true → PcrStep d o (measured (d .pcrs) (d .launch))
+pub data LaunchStep (d : Device) (o : ℕ) : List Pcr → Bool → Type 0 where
+  started : inFour hashStart o ≡ true → rule.startCounts (owner d) ≡ true → LaunchStep d o (launched (d .pcrs)) true
+  ended : inFour hashStart o ≡ false → inFour hashEnd o ≡ true → d .launch .sequence ≡ true → LaunchStep d o (measured (d .pcrs) (d .launch)) (d .control .established)
   -- no start that counts, and no end of an open sequence
-  kept : (inFour hashStart o ≡ true → rule.startCounts (owner d) ≡ false) → (inFour hashEnd o ≡ true → d .launch .sequence ≡ false) → PcrStep d o (d .pcrs)
+  kept : (inFour hashStart o ≡ true → rule.startCounts (owner d) ≡ false) → (inFour hashEnd o ≡ true → d .launch .sequence ≡ false) → LaunchStep d o (d .pcrs) (d .control .established)
 
-pub pcr-step : {d d′ : Device} {w r w′ r′ : List ℕ} {o v : ℕ} → Writes d w r o v d′ w′ r′ → PcrStep d o (d′ .pcrs)
-pcr-step {d} {o = o} k = by k
+pub launch-step : {d d′ : Device} {w r w′ r′ : List ℕ} {o v : ℕ} → Writes d w r o v d′ w′ r′ → LaunchStep d o (d′ .pcrs) (d′ .control .established)
+launch-step {d} {o = o} k = by k
   where
-    none : Unhashed o → PcrStep d o (d .pcrs)
+    none : Unhashed o → LaunchStep d o (d .pcrs) (d .control .established)
     none u = kept (λ s. absurd (clash s (u .start))) (λ e. absurd (clash e (u .end)))
 
-    by : {d′ : Device} {w r w′ r′ : List ℕ} {v : ℕ} → Writes d w r o v d′ w′ r′ → PcrStep d o (d′ .pcrs)
+    by : {d′ : Device} {w r w′ r′ : List ℕ} {v : ℕ} → Writes d w r o v d′ w′ r′ → LaunchStep d o (d′ .pcrs) (d′ .control .established)
     by (starts i j) = started i j
     by (ends i j k) = ended i j k
     by (joins u h i l) = none u
@@ -218,17 +219,17 @@ pcr-step {d} {o = o} k = by k
     by (commands u q n h c k t) = none u
 
 module _ {d : Device} {o : ℕ} where
-  start-pcrs : {b : List Pcr} → PcrStep d o b → inFour hashStart o ≡ true → rule.startCounts (owner d) ≡ true → b ≡ launched (d .pcrs)
+  start-pcrs : {b : List Pcr} {t : Bool} → LaunchStep d o b t → inFour hashStart o ≡ true → rule.startCounts (owner d) ≡ true → b ≡ launched (d .pcrs)
   start-pcrs (started i j) s c = refl
   start-pcrs (ended i j k) s c = absurd (clash s i)
   start-pcrs (kept f g) s c = absurd (clash c (f s))
 
-  end-pcrs : {b : List Pcr} → PcrStep d o b → inFour hashEnd o ≡ true → d .launch .sequence ≡ true → b ≡ measured (d .pcrs) (d .launch)
+  end-pcrs : {b : List Pcr} {t : Bool} → LaunchStep d o b t → inFour hashEnd o ≡ true → d .launch .sequence ≡ true → b ≡ measured (d .pcrs) (d .launch)
   end-pcrs (started i j) s c = absurd (apart o i s)
   end-pcrs (ended i j k) s c = refl
   end-pcrs (kept f g) s c = absurd (clash c (g s))
 
-  kept-pcrs : {b : List Pcr} (m : Model) (v : ℕ) → Agrees m (d .control .arbiter) (d .launch .sequence) → PcrStep d o b → changesPcrs m (writeEvent o v) ≡ false → b ≡ d .pcrs
+  kept-pcrs : {b : List Pcr} {t : Bool} (m : Model) (v : ℕ) → Agrees m (d .control .arbiter) (d .launch .sequence) → LaunchStep d o b t → changesPcrs m (writeEvent o v) ≡ false → b ≡ d .pcrs
   kept-pcrs m v a (started i j) q = absurd (clash (counts-same a ∙ j) (sym (ap (changesPcrs m) (start-event o v i)) ∙ q))
   kept-pcrs m v a (ended i j k) q = absurd (clash (a .sequenceOpen ∙ k) (sym (ap (changesPcrs m) (end-event o v i j)) ∙ q))
   kept-pcrs m v a (kept f g) q = refl
@@ -240,7 +241,7 @@ call-pcrs m a (powers k) q = absurd (true≢false q)
 call-pcrs m a (resets e) q = absurd (true≢false q)
 call-pcrs m a (looks e) q = refl
 call-pcrs m a (reads i e) q = refl
-call-pcrs m a (writes {v = v} k) q = kept-pcrs m v a (pcr-step k) q
+call-pcrs m a (writes {v = v} k) q = kept-pcrs m v a (launch-step k) q
 call-pcrs m a (responds e) q = refl
 
 -- an accepted write is one of the cases
@@ -256,34 +257,10 @@ accepted-write s o v e = by _ (write-case (s .device) (s .writeFifo) (s .readFif
 
 -- ---- the established flag
 
--- a start that counts sets it; any other write leaves it
-pub data FlagStep (d : Device) (o : ℕ) : Bool → Type 0 where
-  set : inFour hashStart o ≡ true → rule.startCounts (owner d) ≡ true → FlagStep d o true
-  stayed : (inFour hashStart o ≡ true → rule.startCounts (owner d) ≡ false) → FlagStep d o (d .control .established)
-
-flag-step : {d d′ : Device} {w r w′ r′ : List ℕ} {o v : ℕ} → Writes d w r o v d′ w′ r′ → FlagStep d o (d′ .control .established)
-flag-step {d} {o = o} k = by k
-  where
-    none : inFour hashStart o ≡ false → FlagStep d o (d .control .established)
-    none e = stayed (λ s. absurd (clash s e))
-
-    by : {d′ : Device} {w r w′ r′ : List ℕ} {v : ℕ} → Writes d w r o v d′ w′ r′ → FlagStep d o (d′ .control .established)
-    by (starts i j) = set i j
-    by (ends i j k) = none i
-    by (joins u h i l) = none (u .start)
-    by (ignores (lateStart i j)) = stayed (λ s. j)
-    by (ignores (lateEnd i j k)) = none i
-    by (ignores (pageIgnored u h i)) = none (u .start)
-    by (ignores (missed u h n i)) = none (u .start)
-    by (ignores (registerIgnored u h n i)) = none (u .start)
-    by (aborts l u h e i) = none (u .start)
-    by (keeps l u h e i) = none (u .start)
-    by (sets u q n h k t) = none (u .start)
-    by (commands u q n h c k t) = none (u .start)
-
-flag-set : {d : Device} {o : ℕ} {t : Bool} → FlagStep d o t → inFour hashStart o ≡ true → rule.startCounts (owner d) ≡ true → t ≡ true
-flag-set (set i j) s c = refl
-flag-set (stayed f) s c = absurd (clash c (f s))
+flag-set : {d : Device} {o : ℕ} {b : List Pcr} {t : Bool} → LaunchStep d o b t → inFour hashStart o ≡ true → rule.startCounts (owner d) ≡ true → t ≡ true
+flag-set (started i j) s c = refl
+flag-set (ended i j k) s c = absurd (clash s i)
+flag-set (kept f g) s c = absurd (clash c (f s))
 
 reset-flag : (established : Bool) (identity : List ℕ) (n : ℕ) → freshDevice established identity n .control .established ≡ established
 unfolding freshDevice
@@ -296,11 +273,12 @@ call-flag m a (powers k) q f = absurd (true≢false q)
 call-flag m a (resets e) q f = reset-flag _ _ _
 call-flag m a (looks e) q f = refl
 call-flag m a (reads i e) q f = refl
-call-flag {s = s} m a (writes {o = o} {v = v} k) q f = by (flag-step k)
+call-flag {s = s} m a (writes {o = o} {v = v} k) q f = by (launch-step k)
   where
-    by : {t : Bool} → FlagStep (s .device) o t → t ≡ s .device .control .established
-    by (set i j) = absurd (clash (counts-same a ∙ j) (sym (ap (establishes m) (start-event o v i)) ∙ f))
-    by (stayed g) = refl
+    by : {b : List Pcr} {t : Bool} → LaunchStep (s .device) o b t → t ≡ s .device .control .established
+    by (started i j) = absurd (clash (counts-same a ∙ j) (sym (ap (establishes m) (start-event o v i)) ∙ f))
+    by (ended i j k) = refl
+    by (kept g h) = refl
 call-flag m a (responds e) q f = refl
 
 -- ---- the claim
@@ -310,7 +288,7 @@ module _ (m : Model) (bs : List ℕ) (s : State) (a : Keeps m (s .device)) (t : 
       → left (write o v) s .device .pcrs ≡ replaced (s .device .pcrs) launchPcr (sha1 (valueAt (s .device .pcrs) launchPcr ++ sha1 bs))
   measures o v z i e =
       let k : s .device .launch .sequence ≡ true = sym (a .sequenceOpen) ∙ e in
-      end-pcrs (pcr-step (accepted-write s o v z)) i k
+      end-pcrs (launch-step (accepted-write s o v z)) i k
       ∙ ap (λ (y : List ℕ). replaced (s .device .pcrs) launchPcr (sha1 (valueAt (s .device .pcrs) launchPcr ++ y))) (ap finish (t .opened k) ∙ digest bs)
 
   launched-now : Launched m bs s
@@ -319,13 +297,13 @@ module _ (m : Model) (bs : List ℕ) (s : State) (a : Keeps m (s .device)) (t : 
     stands = t;
     banked = record { whole = b .whole; zeros = λ e. b .zeros (sym (a .sequenceOpen) ∙ e) };
     starts = λ o v z i e p.
-        ap (λ (y : List Pcr). valueAt y p) (start-pcrs (pcr-step (accepted-write s o v z)) i (sym (counts-same a) ∙ e)) ∙ launched-at (s .device .pcrs) p (b .whole);
+        ap (λ (y : List Pcr). valueAt y p) (start-pcrs (launch-step (accepted-write s o v z)) i (sym (counts-same a) ∙ e)) ∙ launched-at (s .device .pcrs) p (b .whole);
     measures = measures;
     value = λ o v z i e p.
         ap (λ (y : List Pcr). valueAt y p) (measures o v z i e)
         ∙ replaced-at (s .device .pcrs) launchPcr p _ (omega (arith, b .whole))
         ∙ ap (λ (y : List ℕ). cond (eqb p launchPcr) (sha1 (y ++ sha1 bs)) (valueAt (s .device .pcrs) p)) (b .zeros (sym (a .sequenceOpen) ∙ e) launchPcr refl);
-    sets = λ o v z i e. flag-set (flag-step (accepted-write s o v z)) i (sym (counts-same a) ∙ e);
+    sets = λ o v z i e. flag-set (launch-step (accepted-write s o v z)) i (sym (counts-same a) ∙ e);
     established = λ c p e. call-flag m a (call-case c s) p e;
     keeps = λ c e. call-pcrs m a (call-case c s) e;
   }

@@ -9,6 +9,7 @@ pub mod Demand3
 pub mod Example
 pub mod Launch
 pub mod PcrEvents
+pub mod Access
 pub mod Mailbox
 pub mod Progress
 pub mod StaleAnswers

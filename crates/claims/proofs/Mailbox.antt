@@ -1,30 +1,26 @@
 -- Each call keeps the mailbox: phase, run number and FIFOs that it leaves are those of the mailbox's step. Assumes nothing.
 use mathlib.Core.Path.{_≡_, refl, sym, ap, _∙_}
-use mathlib.Core.Bool.{Bool, true, false, cond, not, _&&_, _||_, true≢false}
+use mathlib.Core.Bool.{Bool, true, false, cond, not, _&&_, true≢false}
 use mathlib.Core.List.{List, [], _∷_}
 use Prim.Native.Nat.{ℕ, _+_, _-_, _≤_}
 use native.Mathlib.Omega.{arith}
 use lib.ListN.{length, replicate}
-use lib.Dec.{eqb, ltb}
+use lib.Dec.{ltb}
 use borrow.Author.Tests.{eq-eqb, ne-eqb, ltb-true, ltb-false, le-leb}
 use Rattle.refusal.specs.Refusal.{accepted}
 use Rattle.reg_layout.specs.Offsets.{inFour, pageOf, placeOf, lastOffset, access, intEnable, intStatus, sts, dataFifo, hashStart, hashEnd}
 use Rattle.reg_layout.proofs.Within.{not-within, within-then}
 use Rattle.pcr.proofs.MaskTable.{neither}
-use Rattle.arbiter.specs.State.{locality, withWaiting, withSeized, waits, holds}
+use Rattle.arbiter.specs.State.{holds}
 use Rattle.arbiter.specs.Rules as rule
-use Rattle.arbiter.specs.Rules.{keepsCommand, abortsCommand, serve, handover, accessCommand, requestFrom, request, release, seizeFrom, seize, clearSeized, commanded, writeAccess}
+use Rattle.arbiter.specs.Rules.{writeAccess}
 use Rattle.arbiter.specs.Agreement.{Agrees, holder}
 use Rattle.arbiter.specs.declared.Arbiter.{Arbiter}
 use Rattle.arbiter.specs.declared.Owner.{Owner}
 use Rattle.arbiter.specs.declared.Owner.the-variants.{Nobody, Held}
-use Rattle.arbiter.specs.declared.access.AccessCommand.{AccessCommand}
-use Rattle.arbiter.specs.declared.access.AccessCommand.the-variants.{Nothing, RequestUse, ActiveLocality, Seize, BeenSeized}
-use Rattle.arbiter.proofs.Agreement.{commandEvent, event-command}
-use Rattle.arbiter.proofs.Cases.{handover-aborts}
 use Rattle.arbiter_model.specs.Model as model
 use Rattle.arbiter_model.specs.Model.{Model, Holder, accessEvent, isAccess, writeEvent, ignoresPage, step, fresh}
-use Rattle.arbiter_model.specs.Waits.{relinquishes, run}
+use Rattle.arbiter_model.specs.Waits.{run}
 use Rattle.arbiter_model.proofs.ModelLaws.{access-elim}
 use Rattle.arbiter_model.proofs.Invariant.{Sound, sound-fresh}
 use Rattle.record.specs.Record.{freshDevice}
@@ -53,10 +49,11 @@ use Rattle.claims.specs.Events.{readAt, entryOf, happens, events}
 use Rattle.claims.specs.Demand3.{Keeps}
 use Rattle.claims.specs.Launch.{startCounts}
 use Rattle.claims.specs.Mailbox as mailbox
-use Rattle.claims.specs.Mailbox.{Mailbox, idle, ready, receiving, executing, answering, Mail, mail, ordered, stored, fetched, isActive, byActive, isSts, isFifo, seizes, mailWritten, mailStep, mailFrom, phaseOf, commandOf, answerOf, padded, MailboxClaim}
+use Rattle.claims.specs.Mailbox.{Mailbox, idle, ready, receiving, executing, answering, Mail, mail, afterSts, afterByte, afterFetch, isActive, byActive, isStsCommand, isFifo, mailWritten, mailStep, mailFrom, phaseOf, commandOf, answerOf, padded, MailboxClaim}
 use Rattle.claims.proofs.Padded.{length-padded, clear-padded, put-padded}
 use Rattle.claims.proofs.Orders.{Fits, command-fits, answer-fits, Boxed, order-leaves, store-leaves}
 use Rattle.claims.proofs.CallCases.{CallCase, same, powers, resets, looks, reads, writes, responds, leftBy, call-case}
+use Rattle.claims.proofs.Access.{change-same}
 use Rattle.claims.proofs.Book.{start-event, end-event, access-event, other-event, data-page, page-same, power-keeps, one-call, sound-call}
 use Rattle.claims.proofs.Launch.{counts-same}
 
@@ -87,45 +84,6 @@ page-on {t = t} o a h e = rw (active-same o a ∙ e, page-same o a ∙ h) (by t)
 
 -- ---- who aborts
 
-module _ {m : Model} {b : Arbiter} {q : Bool} (x : ℕ) (a : Agrees m b q) (h : ignoresPage m x ≡ false) where
-  -- a write to ACCESS aborts in the model just when it does in the record
-  abort-same : (v : ℕ) → mailbox.aborts m (accessEvent x v) ≡ writeAccess b (locality x) v .abort
-  unfolding writeAccess request release seize clearSeized
-  abort-same v = ap (mailbox.aborts m) (event-command x v) ∙ by (accessCommand v)
-    where
-      asks : (w : Owner) → false ≡ requestFrom w b (locality x) .abort
-      asks Nobody = refl
-      asks (Held y) = on (eqb (y .0) x)
-        where
-          on : (t : Bool) → false ≡ cond t (keepsCommand b) (keepsCommand (rule.queued b (locality x))) .abort
-          on true = refl
-          on false = refl
-
-      releases : (w : Owner) (u : Bool) → (relinquishes model.activeLocality (holder w) x || false) ≡ cond (holds w (locality x)) (handover b) (cond u (keepsCommand (withWaiting b x false)) (keepsCommand b)) .abort
-      releases Nobody true = refl
-      releases Nobody false = refl
-      releases (Held y) u = on (eqb (y .0) x) u
-        where
-          on : (t u : Bool) → (t || false) ≡ cond t (handover b) (cond u (keepsCommand (withWaiting b x false)) (keepsCommand b)) .abort
-          on true u = sym (handover-aborts b)
-          on false true = refl
-          on false false = refl
-
-      takes : (w : Owner) → seizes model.seize (holder w) x ≡ seizeFrom w b (locality x) .abort
-      takes Nobody = refl
-      takes (Held y) = on (ltb (y .0) x)
-        where
-          on : (t : Bool) → t ≡ cond t (abortsCommand (withSeized (serve b (locality x)) (y .0) true)) (keepsCommand b) .abort
-          on true = refl
-          on false = refl
-
-      by : (k : AccessCommand) → mailbox.aborts m (commandEvent x k) ≡ commanded k b (locality x) .abort
-      by Nothing = refl
-      by RequestUse = rw h (asks (b .active))
-      by ActiveLocality = rw (h, a .active) (releases (b .active) (waits b x))
-      by Seize = rw (h, a .active) (takes (b .active))
-      by BeenSeized = rw h refl
-
 -- in a page that is ignored nothing does
 page-abort : (m : Model) (o v : ℕ) → Unhashed o → ignoresPage m (pageOf o) ≡ true → mailbox.aborts m (writeEvent o v) ≡ false
 page-abort m o v u h = rw (u .start, u .end) (by (isAccess o))
@@ -138,7 +96,7 @@ page-abort m o v u h = rw (u .start, u .end) (by (isAccess o))
 
 -- a cycle that is neither at STS nor at the FIFO
 pub record Elsewhere (o : ℕ) : Type 0 where
-  pub noSts : isSts o ≡ false
+  pub noSts : isStsCommand o ≡ false
   pub noFifo : isFifo o ≡ false
 
 elsewhere : (o : ℕ) → (placeOf o ≡ 0x18 → ⊥) → (0x24 ≤ placeOf o → placeOf o ≤ 0x27 → ⊥) → Elsewhere o
@@ -173,14 +131,14 @@ module _ (c : ℕ) (m : Model) (q : Mail) (o v : ℕ) where
   apart : mailbox.aborts m (writeEvent o v) ≡ false → Elsewhere o → mailWritten c m q o v ≡ q
   apart e f = rw (e, f .noSts, f .noFifo) (by (byActive m o))
     where
-      by : (t : Bool) → cond (t && false) (ordered c v q) (cond (t && false) (mail (stored c v (q .box)) (q .run)) q) ≡ q
+      by : (t : Bool) → cond (t && false) (afterSts c v q) (cond (t && false) (mail (afterByte c v (q .box)) (q .run)) q) ≡ q
       by true = refl
       by false = refl
 
-  at-sts : mailbox.aborts m (writeEvent o v) ≡ false → byActive m o ≡ true → placeOf o ≡ sts → mailWritten c m q o v ≡ ordered c v q
+  at-sts : mailbox.aborts m (writeEvent o v) ≡ false → byActive m o ≡ true → placeOf o ≡ sts → mailWritten c m q o v ≡ afterSts c v q
   at-sts e f g = rw (e, f, eq-eqb (placeOf o) 0x18 g) refl
 
-  at-fifo : mailbox.aborts m (writeEvent o v) ≡ false → byActive m o ≡ true → inFour dataFifo (placeOf o) ≡ true → mailWritten c m q o v ≡ mail (stored c v (q .box)) (q .run)
+  at-fifo : mailbox.aborts m (writeEvent o v) ≡ false → byActive m o ≡ true → inFour dataFifo (placeOf o) ≡ true → mailWritten c m q o v ≡ mail (afterByte c v (q .box)) (q .run)
   at-fifo e f g =
       let k : _ = within-then dataFifo (dataFifo + 3) (placeOf o) g in
       rw (e, f, ne-eqb (placeOf o) 0x18 (λ i. omega arith), g) refl
@@ -215,17 +173,17 @@ module _ {c : ℕ} {q : Mail} {p : Phase} {n : ℕ} {w r : List ℕ} (b : Boxed 
     abbrev Commands : Mail → Commanded → Type 0
     Commands q′ k = Boxed c q′ (k .phase) (k .run) (updateWriteFifo (k .fifos) v w) (updateReadFifo (k .fifos) badSize r)
 
-    by-order : Commands (ordered c v q) (commandedBy (stsCommand v) p n (declaredSize w) (length w))
+    by-order : Commands (afterSts c v q) (commandedBy (stsCommand v) p n (declaredSize w) (length w))
     by-order = rw (b .phase, b .number, b .writeFifo, b .readFifo) (order-leaves c l (q .box) (q .run) v (b .fits))
 
-    by-byte : Commands (mail (stored c v (q .box)) (q .run)) (writeDataFifo p n (declaredSize w) (length w))
+    by-byte : Commands (mail (afterByte c v (q .box)) (q .run)) (writeDataFifo p n (declaredSize w) (length w))
     by-byte = rw (b .phase, b .number, b .writeFifo, b .readFifo) (store-leaves c l (q .box) (q .run) v (b .fits))
 
 -- read on
-fetch-boxed : {c : ℕ} {q : Mail} {p : Phase} {n : ℕ} {w r : List ℕ} → Boxed c q p n w r → Boxed c (mail (fetched (q .box)) (q .run)) (afterRead p) n w r
+fetch-boxed : {c : ℕ} {q : Mail} {p : Phase} {n : ℕ} {w r : List ℕ} → Boxed c q p n w r → Boxed c (mail (afterFetch (q .box)) (q .run)) (afterRead p) n w r
 fetch-boxed {c} {q} {p} {n} {w} {r} b = rw (b .phase, b .number, b .writeFifo, b .readFifo) (by (q .box) (b .fits))
   where
-    by : (x : Mailbox) → Fits c x → Boxed c (mail (fetched x) (q .run)) (afterRead (phaseOf x)) (q .run) (padded c (commandOf x)) (padded c (answerOf x))
+    by : (x : Mailbox) → Fits c x → Boxed c (mail (afterFetch x) (q .run)) (afterRead (phaseOf x)) (q .run) (padded c (commandOf x)) (padded c (answerOf x))
     by idle f = record { phase = refl; number = refl; writeFifo = refl; readFifo = refl; fits = f }
     by ready f = record { phase = refl; number = refl; writeFifo = refl; readFifo = refl; fits = f }
     by (receiving bs) f = record { phase = refl; number = refl; writeFifo = refl; readFifo = refl; fits = f }
@@ -251,7 +209,7 @@ module _ (c : ℕ) (l : 1024 ≤ c) (m : Model) (q : Mail) (d : Device) (w r : L
   at-end i j e = ap (mailbox.aborts m) (end-event o v i j) ∙ a .sequenceOpen ∙ e
 
   accessed-same : o ≤ lastOffset → Unhashed o → hashPage o (d .launch .sequence) ≡ false → placeOf o ≡ access → mailbox.aborts m (writeEvent o v) ≡ writeAccess (d .control .arbiter) (pageAt o) v .abort
-  accessed-same g u h e = ap (mailbox.aborts m) (access-event o v u g e) ∙ abort-same (pageOf o) a (page-same o a ∙ h) v
+  accessed-same g u h e = ap (mailbox.aborts m) (access-event o v u g e) ∙ change-same (pageOf o) a (page-same o a ∙ h) v .0
 
   ignored : Ignores d o → Left d w r
   ignored (lateStart i j) = rw (apart c m q o v (at-start i j) (at-hash-start o i)) b
@@ -294,11 +252,11 @@ module _ (c : ℕ) (l : 1024 ≤ c) (g : c ≤ 4096) (m : Model) (q : Mail) (s :
   looked : (o : ℕ) → (inFour dataFifo (placeOf o) ≡ true → holds (owner (s .device)) (pageAt o) ≡ false) → mailStep c m q (readAt o) ≡ q
   looked o h = by (isFifo o) refl
     where
-      by : (t : Bool) → isFifo o ≡ t → cond (isActive (m .active) (pageOf o) && t) (mail (fetched (q .box)) (q .run)) q ≡ q
+      by : (t : Bool) → isFifo o ≡ t → cond (isActive (m .active) (pageOf o) && t) (mail (afterFetch (q .box)) (q .run)) q ≡ q
       by true e = rw (active-same o a ∙ h e) refl
       by false e = rw (and-false (isActive (m .active) (pageOf o)) refl) refl
 
-  fetched-is : (o : ℕ) → inFour dataFifo (placeOf o) ≡ true → holds (owner (s .device)) (pageAt o) ≡ true → mailStep c m q (readAt o) ≡ mail (fetched (q .box)) (q .run)
+  fetched-is : (o : ℕ) → inFour dataFifo (placeOf o) ≡ true → holds (owner (s .device)) (pageAt o) ≡ true → mailStep c m q (readAt o) ≡ mail (afterFetch (q .box)) (q .run)
   fetched-is o i h = rw (active-same o a ∙ h, i) refl
 
   -- an accepted answer has 10 to c bytes

@@ -10,6 +10,7 @@ use borrow.Author.Tests.{ltb-true, ltb-false, leb-true}
 use Rattle.bits.specs.Bits.{bit}
 use Rattle.record.specs.declared.Phase.{Phase}
 use Rattle.record.specs.declared.Phase.the-variants.{Idle, Reception, Execution}
+use Rattle.pcr.proofs.MaskTable.{neither}
 use Rattle.record_shape.proofs.Clauses.{both-true}
 use Rattle.reg_fifo.specs.Fifo.{updateWriteFifo, updateReadFifo}
 use Rattle.reg_fifo.specs.declared.FifoAction.the-variants.{Keep, Clear, Store}
@@ -18,7 +19,7 @@ use Rattle.reg_sts_write.specs.Completion.{withoutCause, ignored, enterCompleti
 use Rattle.reg_sts_write.specs.Sts.{stsCommand, commandReady, nextRun, tpmGoAfter, tpmGo, responseRetry, commandedBy, storeAfter, writeDataFifo}
 use Rattle.reg_sts_write.specs.declared.Commanded.{Commanded}
 use Rattle.reg_sts_write.specs.declared.sts.StsCommand.the-variants.{Nothing, CommandReady, TpmGo, ResponseRetry}
-use Rattle.claims.specs.Mailbox.{Mailbox, idle, ready, receiving, executing, answering, Mail, mail, sizeOf, moreExpected, readied, badSizeAnswer, going, gone, retried, ordered, stored, phaseOf, commandOf, answerOf, padded}
+use Rattle.claims.specs.Mailbox.{Mailbox, idle, ready, receiving, executing, answering, Mail, mail, sizeOf, moreExpected, afterCommandReady, badSizeAnswer, goAhead, afterTpmGo, afterRetry, afterSts, afterByte, phaseOf, commandOf, answerOf, padded}
 use Rattle.claims.proofs.Padded.{length-padded, clear-padded, put-padded, set-padded, size-padded}
 
 -- ---- what fits FIFOs of c bytes
@@ -54,24 +55,17 @@ pub record Boxed (c : ℕ) (q : Mail) (p : Phase) (n : ℕ) (w r : List ℕ) : T
 
 -- ---- by number
 
--- a command that may go has its declared size
-pub enough : (n s c : ℕ) → (ltb n 6 || ltb n s && ltb n c) ≡ false → (leb 10 s && leb s c) ≡ true → 10 ≤ n
-enough n s c e f = by (ltb n s) refl (ltb n c) refl (neither (ltb n 6) (ltb n s && ltb n c) e)
+-- a command that may go, with a size that runs, has its declared size
+pub whole : (n s c : ℕ) → (ltb n 6 || ltb n s && ltb n c) ≡ false → (leb 10 s && leb s c) ≡ true → (10 ≤ s) × (s ≤ n)
+whole n s c e f = (leb-true 10 s (k .0), by (ltb n s) refl (ltb n c) refl (neither (ltb n 6) (ltb n s && ltb n c) e .1))
   where
-    neither : (a b : Bool) → (a || b) ≡ false → b ≡ false
-    neither true b e = absurd (true≢false e)
-    neither false b e = e
+    k : (leb 10 s ≡ true) × (leb s c ≡ true)
+    k = both-true (leb 10 s) (leb s c) f
 
-    s10 : 10 ≤ s
-    s10 = leb-true 10 s (both-true (leb 10 s) (leb s c) f .0)
-
-    sc : s ≤ c
-    sc = leb-true s c (both-true (leb 10 s) (leb s c) f .1)
-
-    by : (t : Bool) → ltb n s ≡ t → (u : Bool) → ltb n c ≡ u → (ltb n s && ltb n c) ≡ false → 10 ≤ n
-    by true i true j k = absurd (true≢false (sym (rw (i, j) refl) ∙ k))
-    by true i false j k = omega (arith, s10, sc, ltb-false n c j)
-    by false i u j k = omega (arith, s10, ltb-false n s i)
+    by : (t : Bool) → ltb n s ≡ t → (u : Bool) → ltb n c ≡ u → (ltb n s && ltb n c) ≡ false → s ≤ n
+    by true i true j z = absurd (true≢false (sym (rw (i, j) refl) ∙ z))
+    by true i false j z = omega (arith, leb-true s c (k .1), ltb-false n c j)
+    by false i u j z = ltb-false n s i
 
 -- one more byte fits where more is expected
 room : (n s c : ℕ) → 1024 ≤ c → (ltb n 6 || ltb n s && ltb n c) ≡ true → n < c
@@ -100,21 +94,21 @@ module _ (c : ℕ) (l : 1024 ≤ c) where
     fits = tt;
   }
 
-  ready-leaves : (b : Mailbox) (n v : ℕ) → Fits c b → Leaves (mail (readied b) n) (commandReady (phaseOf b) n) v b
+  ready-leaves : (b : Mailbox) (n v : ℕ) → Fits c b → Leaves (mail (afterCommandReady b) n) (commandReady (phaseOf b) n) v b
   ready-leaves idle n v f = record { phase = refl; number = refl; writeFifo = refl; readFifo = refl; fits = tt }
   ready-leaves ready n v f = keeps ready n v f
   ready-leaves (receiving bs) n v f = cleared (receiving bs) n v f
   ready-leaves (executing bs) n v f = cleared (executing bs) n v f
   ready-leaves (answering a k) n v f = cleared (answering a k) n v f
 
-  going-leaves : (bs : List ℕ) (n v s k : ℕ) → s ≡ sizeOf bs → k ≡ c → Fits c (receiving bs) → Leaves (going c bs n) (tpmGoAfter (length bs) n s k) v (receiving bs)
+  going-leaves : (bs : List ℕ) (n v s k : ℕ) → s ≡ sizeOf bs → k ≡ c → Fits c (receiving bs) → Leaves (goAhead c bs n) (tpmGoAfter (length bs) n s k) v (receiving bs)
   going-leaves bs n v s k i j f = rw (i, j) (by (moreExpected c bs) refl (leb 10 (sizeOf bs) && leb (sizeOf bs) c) refl)
     where
       by : (t : Bool) → moreExpected c bs ≡ t → (u : Bool) → (leb 10 (sizeOf bs) && leb (sizeOf bs) c) ≡ u
           → Leaves (cond t (mail (receiving bs) n) (cond u (mail (executing bs) ((n + 1) % 2 ^ 32)) (mail (answering badSizeAnswer 0) n)))
           (cond t (ignored (Reception (length bs)) n) (cond u (withoutCause (Execution (length bs)) (nextRun n) Keep) (enterCompletion (length badSize) n))) v (receiving bs)
       by true e u g = keeps (receiving bs) n v f
-      by false e true g = record { phase = refl; number = refl; writeFifo = refl; readFifo = refl; fits = (enough (length bs) (sizeOf bs) c e g, f .1) }
+      by false e true g = record { phase = refl; number = refl; writeFifo = refl; readFifo = refl; fits = (omega (arith, whole (length bs) (sizeOf bs) c e g .0, whole (length bs) (sizeOf bs) c e g .1), f .1) }
       by false e false g = record {
         phase = refl;
         number = refl;
@@ -129,14 +123,14 @@ module _ (c : ℕ) (l : 1024 ≤ c) where
   abbrev lengthIn : Mailbox → ℕ
   lengthIn b = length (padded c (commandOf b))
 
-  go-leaves : (b : Mailbox) (n v : ℕ) → Fits c b → Leaves (gone c b n) (tpmGo (phaseOf b) n (sizeIn b) (lengthIn b)) v b
+  go-leaves : (b : Mailbox) (n v : ℕ) → Fits c b → Leaves (afterTpmGo c b n) (tpmGo (phaseOf b) n (sizeIn b) (lengthIn b)) v b
   go-leaves idle n v f = keeps idle n v f
   go-leaves ready n v f = keeps ready n v f
   go-leaves (receiving bs) n v f = going-leaves bs n v _ _ (size-padded c bs) (length-padded c bs (f .1)) f
   go-leaves (executing bs) n v f = keeps (executing bs) n v f
   go-leaves (answering a k) n v f = keeps (answering a k) n v f
 
-  retry-leaves : (b : Mailbox) (n v : ℕ) → Fits c b → Leaves (mail (retried b) n) (responseRetry (phaseOf b) n) v b
+  retry-leaves : (b : Mailbox) (n v : ℕ) → Fits c b → Leaves (mail (afterRetry b) n) (responseRetry (phaseOf b) n) v b
   retry-leaves idle n v f = keeps idle n v f
   retry-leaves ready n v f = keeps ready n v f
   retry-leaves (receiving bs) n v f = keeps (receiving bs) n v f
@@ -144,12 +138,12 @@ module _ (c : ℕ) (l : 1024 ≤ c) where
   retry-leaves (answering a k) n v f = record { phase = refl; number = refl; writeFifo = refl; readFifo = refl; fits = (f .0, f .1, omega arith) }
 
   -- a byte at STS
-  pub order-leaves : (b : Mailbox) (n v : ℕ) → Fits c b → Leaves (ordered c v (mail b n)) (commandedBy (stsCommand v) (phaseOf b) n (sizeIn b) (lengthIn b)) v b
+  pub order-leaves : (b : Mailbox) (n v : ℕ) → Fits c b → Leaves (afterSts c v (mail b n)) (commandedBy (stsCommand v) (phaseOf b) n (sizeIn b) (lengthIn b)) v b
   unfolding stsCommand
   order-leaves b n v f = by (eqb (bit 6 v + bit 5 v + bit 1 v) 1) (eqb (bit 6 v) 1) (eqb (bit 5 v) 1)
     where
       by : (t₁ t₂ t₃ : Bool)
-          → Leaves (cond t₁ (cond t₂ (mail (readied b) n) (cond t₃ (gone c b n) (mail (retried b) n))) (mail b n))
+          → Leaves (cond t₁ (cond t₂ (mail (afterCommandReady b) n) (cond t₃ (afterTpmGo c b n) (mail (afterRetry b) n))) (mail b n))
           (commandedBy (cond t₁ (cond t₂ CommandReady (cond t₃ TpmGo ResponseRetry)) Nothing) (phaseOf b) n (sizeIn b) (lengthIn b)) v b
       by true true t₃ = ready-leaves b n v f
       by true false true = go-leaves b n v f
@@ -157,7 +151,7 @@ module _ (c : ℕ) (l : 1024 ≤ c) where
       by false t₂ t₃ = keeps b n v f
 
   storing-leaves : (bs : List ℕ) (n v s k : ℕ) → s ≡ sizeOf bs → k ≡ c → Fits c (receiving bs)
-      → Leaves (mail (stored c v (receiving bs)) n) (storeAfter (length bs) n s k) v (receiving bs)
+      → Leaves (mail (afterByte c v (receiving bs)) n) (storeAfter (length bs) n s k) v (receiving bs)
   storing-leaves bs n v s k i j f = rw (i, j) (by (moreExpected c bs) refl)
     where
       longer : length (bs ++ (v ∷ [])) ≡ length bs + 1
@@ -175,7 +169,7 @@ module _ (c : ℕ) (l : 1024 ≤ c) where
       by false e = keeps (receiving bs) n v f
 
   -- a byte at the FIFO
-  pub store-leaves : (b : Mailbox) (n v : ℕ) → Fits c b → Leaves (mail (stored c v b) n) (writeDataFifo (phaseOf b) n (sizeIn b) (lengthIn b)) v b
+  pub store-leaves : (b : Mailbox) (n v : ℕ) → Fits c b → Leaves (mail (afterByte c v b) n) (writeDataFifo (phaseOf b) n (sizeIn b) (lengthIn b)) v b
   store-leaves idle n v f = keeps idle n v f
   store-leaves ready n v f = record { phase = refl; number = refl; writeFifo = set-padded c [] v (omega arith); readFifo = refl; fits = (omega arith, omega arith) }
   store-leaves (receiving bs) n v f = storing-leaves bs n v _ _ (size-padded c bs) (length-padded c bs (f .1)) f

@@ -59,7 +59,7 @@ use Rattle.claims.specs.Progress.{overlong, refusalIn, Works, isLent, po
 use Rattle.claims.specs.Mailbox.{Mailbox, idle, ready, receiving, executing, answering, Mail, mail, phaseOf}
 use Rattle.claims.proofs.Orders.{Fits}
 use Rattle.claims.proofs.Mailbox.{write-length, read-length, lengths-allowed, Kept, one-kept, all-kept, first-kept}
-use Rattle.claims.proofs.Launch.{closed-data, launches}
+use Rattle.claims.proofs.Launch.{sequence-then, closed-data, launches}
 use Rattle.claims.proofs.StaleAnswers.{running-is}
 use Rattle.claims.specs.Unchanged.{Refuses}
 use Rattle.claims.proofs.Unchanged.{refusals-change-nothing}
@@ -133,10 +133,6 @@ no-sequence o (Held y) false i h e = refl
 -- a device that was free
 taken-placed : (p : Phase) (x : Locality) (q : Bool) → phasePlaced p Nobody q ≡ true → phasePlaced p (Held x) q ≡ true
 taken-placed p x q e = rw e refl
-
-pub sequence-then : (o : ℕ) (q : Bool) → hashPage o q ≡ true → q ≡ true
-sequence-then o true h = refl
-sequence-then o false h = h
 
 joined-counted : (l : Launch) (v : ℕ) → l .sequence ≡ true → l .stream .count < hashLimit → hashCounted (l .sequence) (join (l .stream) v .count) ≡ true
 unfolding join

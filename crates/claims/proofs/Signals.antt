@@ -1,5 +1,5 @@
 -- Each call keeps the marks, the interrupt registers and the established flag as the third book has them. Assumes nothing.
-use mathlib.Core.Path.{_≡_, refl, sym, ap, _∙_, fun-ext}
+use mathlib.Core.Path.{_≡_, refl, sym, ap, _∙_}
 use mathlib.Core.Bool.{Bool, true, false, cond, not, _&&_, _||_, true≢false}
 use mathlib.Core.List.{List, [], _∷_}
 use Prim.Native.Nat.{ℕ, zero, suc, _+_, _-_, _≤_, _<_}
@@ -20,10 +20,10 @@ use Rattle.arbiter.specs.declared.Owner.{Owner}
 use Rattle.arbiter.specs.declared.Owner.the-variants.{Nobody, Held}
 use Rattle.arbiter.specs.declared.access.AccessCommand.{AccessCommand}
 use Rattle.arbiter.specs.declared.access.AccessCommand.the-variants.{Nothing, RequestUse, ActiveLocality, Seize, BeenSeized}
-use Rattle.arbiter.proofs.Agreement.{commandEvent, event-command, highest-agrees, getD-put}
+use Rattle.arbiter.proofs.Agreement.{commandEvent, event-command, getD-put}
 use Rattle.arbiter_model.specs.Model as model
 use Rattle.arbiter_model.specs.Model.{Model, held, Event, accessEvent, isAccess, writeEvent, put, highest, ignoresPage, fresh}
-use Rattle.arbiter_model.specs.Waits.{relinquishes, handsOver, run}
+use Rattle.arbiter_model.specs.Waits.{handsOver, run}
 use Rattle.arbiter_model.proofs.ModelLaws.{access-elim}
 use Rattle.record.specs.Record.{freshDevice}
 use Rattle.record.specs.declared.Causes.{Causes}
@@ -42,12 +42,13 @@ use Rattle.call_power.proofs.Cases as power
 use Rattle.call_power.proofs.Cases.{PowerCase, power-case}
 use Rattle.reg_sts_write.specs.declared.Commanded.{Commanded}
 use Rattle.reg_sts_write.specs.declared.sts.StsCommand.the-variants.{Nothing as StsNothing, CommandReady, TpmGo, ResponseRetry}
-use Rattle.claims.specs.Mailbox.{Mailbox, idle, ready, receiving, executing, answering, Mail, mail, sizeOf, moreExpected, byActive, isSts, phaseOf, commandOf, padded}
-use Rattle.claims.specs.Answers.{isReady, isGo, mayGo}
+use Rattle.claims.specs.Mailbox.{Mailbox, idle, ready, receiving, executing, answering, Mail, mail, sizeOf, moreExpected, byActive, isStsCommand, phaseOf, commandOf, padded}
+use Rattle.claims.specs.Answers.{isCommandReady, isTpmGo, mayGo}
 use Rattle.claims.proofs.Padded.{length-padded, size-padded}
 use Rattle.claims.specs.Calls.{Call, powerOn, State, refusalOf, left, after, heard}
 use Rattle.claims.specs.Events.{written, entryOf}
 use Rattle.claims.proofs.Orders.{Fits}
+use Rattle.claims.proofs.Access.{someone, change-same}
 use Rattle.claims.proofs.Progress.{or-true}
 use Rattle.claims.proofs.Launch.{counts-same}
 use Rattle.claims.proofs.Book.{start-event, end-event, access-event, other-event, data-page, page-same}
@@ -70,15 +71,7 @@ or-false false = refl
 raise-none : (i : Interrupts) → raise i noCause ≡ i
 raise-none i = rw (or-false (i .status .«command_ready»), or-false (i .status .«locality_change»), or-false (i .status .«data_avail»)) refl
 
--- ---- a handover serves somebody
-
-someone : {m : Model} {b : Arbiter} {q : Bool} → Agrees m b q → isSomebody (highest (m .waiting)) ≡ handover b .«locality_change»
-unfolding handover
-someone {m} {b} a = ap isSomebody (ap highest (fun-ext (a .flags)) ∙ highest-agrees 5 (b .waiting)) ∙ by (nextOwner (b .waiting))
-  where
-    by : (o : Owner) → isSomebody (holder o) ≡ handTo o b .«locality_change»
-    by Nobody = refl
-    by (Held y) = refl
+-- ---- the marks
 
 -- a handover leaves the marks
 handed-marks : (b : Arbiter) → handover b .arbiter .seized ≡ b .seized
@@ -104,43 +97,6 @@ put-mark : (l : List Bool) (w : ℕ → Bool) (x y : ℕ) (v : Bool) → x < len
 put-mark l w x y v h f = sym (getD-put l x y v h) ∙ ap (λ (t : Bool). cond (eqb y x) v t) (f y)
 
 module _ {m : Model} {b : Arbiter} {q : Bool} (x : ℕ) (a : Agrees m b q) (h : ignoresPage m x ≡ false) where
-  change-same : (v : ℕ) → (handsOver m (accessEvent x v) && isSomebody (highest (m .waiting))) ≡ writeAccess b (locality x) v .«locality_change»
-  unfolding writeAccess request release seize clearSeized
-  change-same v = ap (λ (e : Event). handsOver m e && isSomebody (highest (m .waiting))) (event-command x v) ∙ by (accessCommand v)
-    where
-      asks : (w : Owner) → false ≡ requestFrom w b (locality x) .«locality_change»
-      asks Nobody = refl
-      asks (Held y) = on (eqb (y .0) x)
-        where
-          on : (t : Bool) → false ≡ cond t (keepsCommand b) (keepsCommand (rule.queued b (locality x))) .«locality_change»
-          on true = refl
-          on false = refl
-
-      releases : (w : Owner) (u : Bool) → (relinquishes model.activeLocality (holder w) x && isSomebody (highest (m .waiting))) ≡ cond (holds w (locality x)) (handover b) (cond u (keepsCommand (withWaiting b x false)) (keepsCommand b)) .«locality_change»
-      releases Nobody true = refl
-      releases Nobody false = refl
-      releases (Held y) u = on (eqb (y .0) x) u
-        where
-          on : (t u : Bool) → (t && isSomebody (highest (m .waiting))) ≡ cond t (handover b) (cond u (keepsCommand (withWaiting b x false)) (keepsCommand b)) .«locality_change»
-          on true u = someone a
-          on false true = refl
-          on false false = refl
-
-      takes : (w : Owner) → false ≡ seizeFrom w b (locality x) .«locality_change»
-      takes Nobody = refl
-      takes (Held y) = on (ltb (y .0) x)
-        where
-          on : (t : Bool) → false ≡ cond t (abortsCommand (withSeized (serve b (locality x)) (y .0) true)) (keepsCommand b) .«locality_change»
-          on true = refl
-          on false = refl
-
-      by : (k : AccessCommand) → (handsOver m (commandEvent x k) && isSomebody (highest (m .waiting))) ≡ commanded k b (locality x) .«locality_change»
-      by Nothing = refl
-      by RequestUse = rw h (asks (b .active))
-      by ActiveLocality = rw (h, a .active) (releases (b .active) (waits b x))
-      by Seize = rw h (takes (b .active))
-      by BeenSeized = rw h refl
-
   marks-same : (v : ℕ) {w : ℕ → Bool} → x < 5 → ((y : ℕ) → m .active ≡ held y → y < 5) → Marks b w → Marks (writeAccess b (locality x) v .arbiter) (marked m (accessEvent x v) w)
   unfolding writeAccess request release seize clearSeized
   marks-same v {w} l known k = rw (event-command x v) (by (accessCommand v))
@@ -218,7 +174,7 @@ module _ (c : ℕ) (l : 1024 ≤ c) where
   retry-raises (answering a k) n = refl
 
   order-raises : (b : Mailbox) (n v : ℕ) → Fits c b
-      → commandedBy (stsCommand v) (phaseOf b) n (sizeIn b) (lengthIn b) .causes ≡ causes (isReady v && isIdle b) (isGo v && mayGo c b && not (sizeRuns c b))
+      → commandedBy (stsCommand v) (phaseOf b) n (sizeIn b) (lengthIn b) .causes ≡ causes (isCommandReady v && isIdle b) (isTpmGo v && mayGo c b && not (sizeRuns c b))
   unfolding stsCommand
   order-raises b n v f = by (eqb (bit 6 v + bit 5 v + bit 1 v) 1) (eqb (bit 6 v) 1) (eqb (bit 5 v) 1)
     where
@@ -244,7 +200,7 @@ module _ (c : ℕ) (l : 1024 ≤ c) where
 
 -- neither at STS byte 0 nor at a byte of the interrupt registers that takes writes
 record Unseen (o : ℕ) : Type 0 where
-  noSts : isSts o ≡ false
+  noSts : isStsCommand o ≡ false
   noEnable : eqb (placeOf o) 0x08 ≡ false
   noGlobal : eqb (placeOf o) 0x0b ≡ false
   noStatus : eqb (placeOf o) 0x10 ≡ false
@@ -281,7 +237,7 @@ module _ (c : ℕ) (m : Model) (b : Mailbox) (i : Interrupts) (o v : ℕ) where
   at-other u = rw (u .noSts, u .noEnable, u .noGlobal, u .noStatus) (by (byActive m o))
     where
       by : (t : Bool) → cond (t && false) (enabled i v) (cond (t && false) (enabledGlobally i v) (cond (t && false) (clearedBy i v)
-          (raise i (record { «command_ready» = t && false && isReady v && isIdle b; «locality_change» = changes; «data_avail» = t && false && (isGo v && mayGo c b) && not (sizeRuns c b) }))))
+          (raise i (record { «command_ready» = t && false && isCommandReady v && isIdle b; «locality_change» = changes; «data_avail» = t && false && (isTpmGo v && mayGo c b) && not (sizeRuns c b) }))))
           ≡ raise i (onChange changes)
       by true = refl
       by false = refl
@@ -297,7 +253,7 @@ module _ (c : ℕ) (m : Model) (b : Mailbox) (i : Interrupts) (o v : ℕ) where
     at-status p = rw (e, p) refl
 
     at-sts : placeOf o ≡ 0x18 → changes ≡ false
-        → interruptsWritten c m b i o v ≡ raise i (record { «command_ready» = isReady v && isIdle b; «locality_change» = false; «data_avail» = isGo v && mayGo c b && not (sizeRuns c b) })
+        → interruptsWritten c m b i o v ≡ raise i (record { «command_ready» = isCommandReady v && isIdle b; «locality_change» = false; «data_avail» = isTpmGo v && mayGo c b && not (sizeRuns c b) })
     at-sts p f = rw (f, e, p) refl
 
 -- ---- each call
@@ -374,7 +330,7 @@ module _ (c : ℕ) (l : 1024 ≤ c) (m : Model) (q : Mail) (g : Signals) (d : De
   accessed p u h e =
       changed (accessEvent (pageOf o) v) (writeAccess (d .control .arbiter) (pageAt o) v) (access-event o v u p e)
       (access-elim (λ e. establishes m e ≡ false) (pageOf o) v (λ b. refl) refl) (access-unseen o e)
-      (marks-same (pageOf o) a (page-same o a ∙ h) v (omega (arith, p)) known (k .marks)) (change-same (pageOf o) a (page-same o a ∙ h) v)
+      (marks-same (pageOf o) a (page-same o a ∙ h) v (omega (arith, p)) known (k .marks)) (change-same (pageOf o) a (page-same o a ∙ h) v .1)
 
   page-still : Unhashed o → hashPage o (d .launch .sequence) ≡ true → Still m (g .seized) (writeEvent o v)
   page-still u h = rw (u .start, u .end) (by (isAccess o))
@@ -452,7 +408,7 @@ module _ (c : ℕ) (l : 1024 ≤ c) (m : Model) (q : Mail) (g : Signals) (d : De
   orders-signs s e (order i) =
       raises-signs s _ (ap (raise (g .interrupts)) raised ∙ sym (at-sts c m (q .box) (g .interrupts) o v e i (s .changesNot)))
     where
-      raised : commandedBy (stsCommand v) (d .phase) (d .control .run) (declaredSize w) (length w) .causes ≡ causes c l (isReady v && isIdle (q .box)) (isGo v && mayGo c (q .box) && not (sizeRuns c (q .box)))
+      raised : commandedBy (stsCommand v) (d .phase) (d .control .run) (declaredSize w) (length w) .causes ≡ causes c l (isCommandReady v && isIdle (q .box)) (isTpmGo v && mayGo c (q .box) && not (sizeRuns c (q .box)))
       raised = rw (x .phase, x .number, x .writeFifo) (order-raises c l (q .box) (q .run) v (x .fits))
   orders-signs s e (nothing i j) =
       let z : _ = within-then sts (sts + 2) (placeOf o) j in

@@ -8,21 +8,18 @@ use native.Mathlib.Omega.{arith}
 use lib.ListN.{length, take, length-append}
 use lib.Seq.{take-length, take-append-le, getD-take}
 use lib.Dec.{eqb, leb, ltb}
-use borrow.Author.Tests.{eqb-true, ltb-true, ltb-false, leb-true}
+use borrow.Author.Tests.{eqb-true, ltb-true, ltb-false}
 use Rattle.bits.specs.Bits.{bit}
 use Rattle.record_shape.proofs.Clauses.{both-true}
 use Rattle.arbiter_model.specs.Model.{Model, Holder, free, held, Event, restart, hashStart, hashEnd, access, nothing, AccessBit, requestUse, activeLocality, seize, beenSeized, withdraw, wait, accessStep, writeEvent, ignoresPage, step}
 use Rattle.arbiter_model.specs.Waits.{relinquishes}
 use Rattle.claims.specs.Launch.{startCounts}
-use Rattle.claims.specs.Mailbox.{Mailbox, idle, ready, receiving, executing, answering, Mail, mail, sizeOf, moreExpected, badSizeAnswer, readied, gone, retried, ordered, stored, fetched, isActive, byActive, isSts, isFifo, seizes, aborts, mailWritten}
-use Rattle.claims.proofs.Orders.{Fits, enough}
-use Rattle.claims.specs.Answers.{isReady, isGo, mayGo, readies, Trail, trail, trailWritten}
+use Rattle.claims.specs.Mailbox.{Mailbox, idle, ready, receiving, executing, answering, Mail, mail, sizeOf, moreExpected, badSizeAnswer, afterCommandReady, afterTpmGo, afterRetry, afterSts, afterByte, afterFetch, isActive, byActive, isStsCommand, isFifo, seizes, aborts, mailWritten}
+use Rattle.claims.proofs.Orders.{Fits, whole}
+use Rattle.pcr.proofs.MaskTable.{neither}
+use Rattle.claims.specs.Answers.{isCommandReady, isTpmGo, mayGo, readies, Trail, trail, trailWritten}
 
 -- ---- who is active stays so, unless the command is aborted
-
-either-false : (a b : Bool) → (a || b) ≡ false → (a ≡ false) × (b ≡ false)
-either-false true b e = absurd (true≢false e)
-either-false false b e = (refl, e)
 
 access-stays : (m : Model) (a : AccessBit) (x y : ℕ) → m .active ≡ held y → relinquishes a (held y) x ≡ false → seizes a (held y) x ≡ false → accessStep a (held y) x m .active ≡ held y
 access-stays m requestUse x y q e f = by (eqb y x)
@@ -42,7 +39,7 @@ pub stays-active : (m : Model) (e : Event) (y : ℕ) → aborts m e ≡ false �
 stays-active m restart y f q = absurd (true≢false f)
 stays-active m hashStart y f q = rw (q, ap startCounts (sym q) ∙ f) refl
 stays-active m hashEnd y f q = rw f q
-stays-active m (access x a) y f q = by (ignoresPage m x) refl (either-false _ _ f)
+stays-active m (access x a) y f q = by (ignoresPage m x) refl (neither _ _ f)
   where
     by : (t : Bool) → ignoresPage m x ≡ t → (cond (ignoresPage m x) false (relinquishes a (m .active) x) ≡ false) × ((not (ignoresPage m x) && seizes a (m .active) x) ≡ false)
         → cond (ignoresPage m x) m (accessStep a (m .active) x m) .active ≡ held y
@@ -105,27 +102,13 @@ late-byte c bs sent v e r = record {
   sized = r .sized;
 }
 
--- a command that goes has just its declared size
-taken : (c : ℕ) (bs sent : List ℕ) → moreExpected c bs ≡ false → (leb 10 (sizeOf bs) && leb (sizeOf bs) c) ≡ true → Received c bs sent → 10 ≤ length bs → Taken bs sent
-taken c bs sent e f r l =
+-- a command that goes has just its declared size: bytes are taken up to it, and no fewer may go
+taken : (c : ℕ) (bs sent : List ℕ) → Received c bs sent → (10 ≤ sizeOf bs) × (sizeOf bs ≤ length bs) → Taken bs sent
+taken c bs sent r w =
+    let least : 10 ≤ length bs = omega (arith, w .0, w .1) in
     let same : sizeOf sent ≡ sizeOf bs = sym (ap sizeOf (r .front) ∙ size-take (length bs) sent (omega arith)) in
-    let whole : sizeOf bs ≡ length bs = antisym in
-    record { command = r .front ∙ ap (λ (n : ℕ). take n sent) (sym (same ∙ whole)); size = same ∙ whole; within = r .within; least = l }
-  where
-    -- bytes are taken up to the size, and no fewer may go
-    down : sizeOf bs ≤ length bs
-    down = by (ltb (length bs) (sizeOf bs)) refl (ltb (length bs) c) refl (either-false (ltb (length bs) 6) (ltb (length bs) (sizeOf bs) && ltb (length bs) c) e .1)
-      where
-        sc : sizeOf bs ≤ c
-        sc = leb-true (sizeOf bs) c (both-true (leb 10 (sizeOf bs)) (leb (sizeOf bs) c) f .1)
-
-        by : (t : Bool) → ltb (length bs) (sizeOf bs) ≡ t → (u : Bool) → ltb (length bs) c ≡ u → (ltb (length bs) (sizeOf bs) && ltb (length bs) c) ≡ false → sizeOf bs ≤ length bs
-        by true i true j k = absurd (true≢false (sym (rw (i, j) refl) ∙ k))
-        by true i false j k = omega (arith, sc, ltb-false (length bs) c j)
-        by false i u j k = ltb-false (length bs) (sizeOf bs) i
-
-    antisym : sizeOf bs ≡ length bs
-    antisym = omega (arith, down, r .sized (omega arith))
+    let all : sizeOf bs ≡ length bs = omega (arith, w .1, r .sized (omega arith)) in
+    record { command = r .front ∙ ap (λ (n : ℕ). take n sent) (sym (same ∙ all)); size = same ∙ all; within = r .within; least = least }
 
 late-taken : (bs sent : List ℕ) (v : ℕ) → Taken bs sent → Taken bs (sent ++ (v ∷ []))
 late-taken bs sent v k =
@@ -154,7 +137,7 @@ still c m m′ (receiving bs) t f k = k
 still c m m′ (executing bs) t f k = (k .0, f (t .starter) (k .1))
 still c m m′ (answering a j) t f k = f (t .starter) k
 
-pub still-fetched : (c : ℕ) (m : Model) (b : Mailbox) (t : Trail) → Told c m b t → Told c m (fetched b) t
+pub still-fetched : (c : ℕ) (m : Model) (b : Mailbox) (t : Trail) → Told c m b t → Told c m (afterFetch b) t
 still-fetched c m idle t k = k
 still-fetched c m ready t k = k
 still-fetched c m (receiving bs) t k = k
@@ -171,11 +154,11 @@ active-then : (h : Holder) (x : ℕ) → isActive h x ≡ true → h ≡ held x
 active-then free x e = absurd (true≢false (sym e))
 active-then (held y) x e = ap held (eqb-true y x e)
 
-sts-apart : (o : ℕ) → isSts o ≡ true → isFifo o ≡ false
+sts-apart : (o : ℕ) → isStsCommand o ≡ true → isFifo o ≡ false
 sts-apart o e = let i : o % 0x1000 ≡ 0x18 = eqb-true (o % 0x1000) 0x18 e in rw i refl
 
 module _ (c : ℕ) (m m′ : Model) (q : Mail) (t : Trail) (f : Fits c (q .box)) (stays : (y : ℕ) → m .active ≡ held y → m′ .active ≡ held y) (k : Told c m (q .box) t) where
-  ready-told : (b : Mailbox) → Told c m′ (readied b) (trail [] (t .starter))
+  ready-told : (b : Mailbox) → Told c m′ (afterCommandReady b) (trail [] (t .starter))
   ready-told idle = refl
   ready-told ready = refl
   ready-told (receiving bs) = tt
@@ -183,7 +166,7 @@ module _ (c : ℕ) (m m′ : Model) (q : Mail) (t : Trail) (f : Fits c (q .box))
   ready-told (answering a j) = tt
 
   -- a go at page x, which is active
-  go-told : (x : ℕ) → m .active ≡ held x → (b : Mailbox) → Fits c b → Told c m b t → Told c m′ (gone c b (q .run) .box) (cond (mayGo c b) (trail (t .sent) x) t)
+  go-told : (x : ℕ) → m .active ≡ held x → (b : Mailbox) → Fits c b → Told c m b t → Told c m′ (afterTpmGo c b (q .run) .box) (cond (mayGo c b) (trail (t .sent) x) t)
   go-told x i idle g k = k
   go-told x i ready g k = k
   go-told x i (receiving bs) g k = by (moreExpected c bs) refl (leb 10 (sizeOf bs) && leb (sizeOf bs) c) refl
@@ -191,19 +174,19 @@ module _ (c : ℕ) (m m′ : Model) (q : Mail) (t : Trail) (f : Fits c (q .box))
       by : (u : Bool) → moreExpected c bs ≡ u → (w : Bool) → (leb 10 (sizeOf bs) && leb (sizeOf bs) c) ≡ w
           → Told c m′ (cond u (mail (receiving bs) (q .run)) (cond w (mail (executing bs) ((q .run + 1) % 2 ^ 32)) (mail (answering badSizeAnswer 0) (q .run))) .box) (cond (not u) (trail (t .sent) x) t)
       by true e w j = k
-      by false e true j = (taken c bs (t .sent) e j k (enough (length bs) (sizeOf bs) c e j), stays x i)
+      by false e true j = (taken c bs (t .sent) k (whole (length bs) (sizeOf bs) c e j), stays x i)
       by false e false j = stays x i
   go-told x i (executing bs) g k = still c m m′ (executing bs) t stays k
   go-told x i (answering a j) g k = still c m m′ (answering a j) t stays k
 
-  retry-told : (b : Mailbox) → Told c m b t → Told c m′ (retried b) t
+  retry-told : (b : Mailbox) → Told c m b t → Told c m′ (afterRetry b) t
   retry-told idle k = k
   retry-told ready k = k
   retry-told (receiving bs) k = k
   retry-told (executing bs) k = still c m m′ (executing bs) t stays k
   retry-told (answering a j) k = stays (t .starter) k
 
-  store-told : (v : ℕ) (b : Mailbox) → Told c m b t → Told c m′ (stored c v b) (trail (t .sent ++ (v ∷ [])) (t .starter))
+  store-told : (v : ℕ) (b : Mailbox) → Told c m b t → Told c m′ (afterByte c v b) (trail (t .sent ++ (v ∷ [])) (t .starter))
   store-told v idle k = tt
   store-told v ready k = rw k (first-byte c v)
   store-told v (receiving bs) k = by (moreExpected c bs) refl
@@ -216,11 +199,11 @@ module _ (c : ℕ) (m m′ : Model) (q : Mail) (t : Trail) (f : Fits c (q .box))
 
   -- a byte v at STS of page x, which is active
   order-told : (x v : ℕ) → m .active ≡ held x
-      → Told c m′ (ordered c v q .box) (cond (isReady v) (trail [] (t .starter)) (cond (isGo v && mayGo c (q .box)) (trail (t .sent) x) t))
+      → Told c m′ (afterSts c v q .box) (cond (isCommandReady v) (trail [] (t .starter)) (cond (isTpmGo v && mayGo c (q .box)) (trail (t .sent) x) t))
   order-told x v i = by (eqb (bit 6 v + bit 5 v + bit 1 v) 1) (eqb (bit 6 v) 1) (eqb (bit 5 v) 1)
     where
       by : (t₁ t₂ t₃ : Bool)
-          → Told c m′ (cond t₁ (cond t₂ (mail (readied (q .box)) (q .run)) (cond t₃ (gone c (q .box) (q .run)) (mail (retried (q .box)) (q .run)))) q .box)
+          → Told c m′ (cond t₁ (cond t₂ (mail (afterCommandReady (q .box)) (q .run)) (cond t₃ (afterTpmGo c (q .box) (q .run)) (mail (afterRetry (q .box)) (q .run)))) q .box)
           (cond (t₁ && t₂) (trail [] (t .starter)) (cond (t₁ && (not t₂ && t₃) && mayGo c (q .box)) (trail (t .sent) x) t))
       by true true t₃ = ready-told (q .box)
       by true false true = go-told x i (q .box) f k
@@ -229,7 +212,7 @@ module _ (c : ℕ) (m m′ : Model) (q : Mail) (t : Trail) (f : Fits c (q .box))
 
 pub written-told : (c : ℕ) (m : Model) (q : Mail) (t : Trail) (o v : ℕ) → Fits c (q .box) → Told c m (q .box) t
     → Told c (step m (writeEvent o v)) (mailWritten c m q o v .box) (trailWritten c m (q .box) t o v)
-written-told c m q t o v f k = by (aborts m (writeEvent o v)) refl (byActive m o) refl (isSts o) refl (isFifo o) refl
+written-told c m q t o v f k = by (aborts m (writeEvent o v)) refl (byActive m o) refl (isStsCommand o) refl (isFifo o) refl
   where
     m′ : Model
     m′ = step m (writeEvent o v)
@@ -237,9 +220,9 @@ written-told c m q t o v f k = by (aborts m (writeEvent o v)) refl (byActive m o
     page : byActive m o ≡ true → m .active ≡ held (o / 0x1000)
     page e = active-then (m .active) (o / 0x1000) (both-true (isActive (m .active) (o / 0x1000)) (not (ignoresPage m (o / 0x1000))) e .0)
 
-    by : (a : Bool) → aborts m (writeEvent o v) ≡ a → (b : Bool) → byActive m o ≡ b → (s : Bool) → isSts o ≡ s → (z : Bool) → isFifo o ≡ z
-        → Told c m′ (cond a (mail idle (q .run)) (cond (b && s) (ordered c v q) (cond (b && z) (mail (stored c v (q .box)) (q .run)) q)) .box)
-        (cond a (trail [] (t .starter)) (cond (b && s && isReady v) (trail [] (t .starter)) (cond (b && s && (isGo v && mayGo c (q .box))) (trail (t .sent) (o / 0x1000))
+    by : (a : Bool) → aborts m (writeEvent o v) ≡ a → (b : Bool) → byActive m o ≡ b → (s : Bool) → isStsCommand o ≡ s → (z : Bool) → isFifo o ≡ z
+        → Told c m′ (cond a (mail idle (q .run)) (cond (b && s) (afterSts c v q) (cond (b && z) (mail (afterByte c v (q .box)) (q .run)) q)) .box)
+        (cond a (trail [] (t .starter)) (cond (b && s && isCommandReady v) (trail [] (t .starter)) (cond (b && s && (isTpmGo v && mayGo c (q .box))) (trail (t .sent) (o / 0x1000))
         (cond (b && z) (trail (t .sent ++ (v ∷ [])) (t .starter)) t))))
     by true i b j s e z g = tt
     by false i true j true e true g = absurd (true≢false (sym g ∙ sts-apart o e))
@@ -251,24 +234,24 @@ written-told c m q t o v f k = by (aborts m (writeEvent o v)) refl (byActive m o
 -- a run goes on: nothing aborts it, and no 40h comes
 pub goes-on : (c : ℕ) (m : Model) (bs : List ℕ) (n o v : ℕ) → (aborts m (writeEvent o v) || readies m o v) ≡ false
     → mailWritten c m (mail (executing bs) n) o v ≡ mail (executing bs) n
-goes-on c m bs n o v e = by (byActive m o && isSts o) refl (byActive m o && isFifo o)
+goes-on c m bs n o v e = by (byActive m o && isStsCommand o) refl (byActive m o && isFifo o)
   where
     q : Mail
     q = mail (executing bs) n
 
     k : (aborts m (writeEvent o v) ≡ false) × (readies m o v ≡ false)
-    k = either-false (aborts m (writeEvent o v)) (readies m o v) e
+    k = neither (aborts m (writeEvent o v)) (readies m o v) e
 
-    bits : isReady v ≡ false → ordered c v q ≡ q
+    bits : isCommandReady v ≡ false → afterSts c v q ≡ q
     bits r = on (eqb (bit 6 v + bit 5 v + bit 1 v) 1) (eqb (bit 6 v) 1) (eqb (bit 5 v) 1) r
       where
-        on : (t₁ t₂ t₃ : Bool) → (t₁ && t₂) ≡ false → cond t₁ (cond t₂ (mail (readied (executing bs)) n) (cond t₃ (gone c (executing bs) n) (mail (retried (executing bs)) n))) q ≡ q
+        on : (t₁ t₂ t₃ : Bool) → (t₁ && t₂) ≡ false → cond t₁ (cond t₂ (mail (afterCommandReady (executing bs)) n) (cond t₃ (afterTpmGo c (executing bs) n) (mail (afterRetry (executing bs)) n))) q ≡ q
         on true true t₃ r = absurd (true≢false r)
         on true false true r = refl
         on true false false r = refl
         on false t₂ t₃ r = refl
 
-    by : (s : Bool) → (byActive m o && isSts o) ≡ s → (z : Bool) → cond (aborts m (writeEvent o v)) (mail idle n) (cond s (ordered c v q) (cond z (mail (stored c v (executing bs)) n) q)) ≡ q
+    by : (s : Bool) → (byActive m o && isStsCommand o) ≡ s → (z : Bool) → cond (aborts m (writeEvent o v)) (mail idle n) (cond s (afterSts c v q) (cond z (mail (afterByte c v (executing bs)) n) q)) ≡ q
     by true i z = rw (k .0) (bits (rw i at (k .1)))
     by false i true = rw (k .0) refl
     by false i false = rw (k .0) refl

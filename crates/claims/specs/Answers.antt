@@ -14,16 +14,16 @@ use Rattle.refusal.specs.Refusal.{accepted}
 use Rattle.arbiter_model.specs.Model.{Model, held, writeEvent, step, fresh}
 use Rattle.claims.specs.Calls.{Call, powerOn, reset, read, write, respond, pcrValue, interruptLine, mayReset, mayExtend, window, State, nothing, byte, bytes, Answer, gives, called, refusalOf, left, after, StartsAccepted, OverLists}
 use Rattle.claims.specs.Events.{Entry, poweredOn, restarted, written, readAt, answered, none, entryOf, eventFor, happens, modelAfter}
-use Rattle.claims.specs.Mailbox.{Mailbox, idle, ready, receiving, executing, answering, Mail, mail, sizeOf, moreExpected, badSizeAnswer, isActive, byActive, isSts, isFifo, aborts, mailStep, mailAfter}
+use Rattle.claims.specs.Mailbox.{Mailbox, idle, ready, receiving, executing, answering, Mail, mail, sizeOf, moreExpected, badSizeAnswer, isActive, byActive, isStsCommand, isFifo, aborts, mailStep, mailAfter}
 
 -- ---- two things more that a list of calls tells
 
 -- "with exactly one of these bits set": 40h, and 20h
-abbrev pub isReady : ℕ → Bool
-isReady v = eqb (bit 6 v + bit 5 v + bit 1 v) 1 && eqb (bit 6 v) 1
+abbrev pub isCommandReady : ℕ → Bool
+isCommandReady v = eqb (bit 6 v + bit 5 v + bit 1 v) 1 && eqb (bit 6 v) 1
 
-abbrev pub isGo : ℕ → Bool
-isGo v = eqb (bit 6 v + bit 5 v + bit 1 v) 1 && (not (eqb (bit 6 v) 1) && eqb (bit 5 v) 1)
+abbrev pub isTpmGo : ℕ → Bool
+isTpmGo v = eqb (bit 6 v + bit 5 v + bit 1 v) 1 && (not (eqb (bit 6 v) 1) && eqb (bit 5 v) 1)
 
 -- may a command go: it is received, and no more is expected
 abbrev pub mayGo : ℕ → Mailbox → Bool
@@ -35,10 +35,10 @@ mayGo c (answering a k) = false
 
 -- an accepted write that is the active locality's 40h, its go that counts, or its byte for the FIFO
 abbrev pub readies : Model → ℕ → ℕ → Bool
-readies m o v = byActive m o && isSts o && isReady v
+readies m o v = byActive m o && isStsCommand o && isCommandReady v
 
 abbrev pub goes : ℕ → Model → Mailbox → ℕ → ℕ → Bool
-goes c m b o v = byActive m o && isSts o && (isGo v && mayGo c b)
+goes c m b o v = byActive m o && isStsCommand o && (isTpmGo v && mayGo c b)
 
 abbrev pub sends : Model → ℕ → Bool
 sends m o = byActive m o && isFifo o

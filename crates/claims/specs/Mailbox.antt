@@ -48,12 +48,12 @@ abbrev pub moreExpected : ℕ → List ℕ → Bool
 moreExpected c bs = ltb (length bs) 6 || ltb (length bs) (sizeOf bs) && ltb (length bs) c
 
 -- "40h: Idle goes to Ready ..; Ready stays; Reception, Execution and Completion go to Idle"
-abbrev pub readied : Mailbox → Mailbox
-readied idle = ready
-readied ready = ready
-readied (receiving bs) = idle
-readied (executing bs) = idle
-readied (answering a k) = idle
+abbrev pub afterCommandReady : Mailbox → Mailbox
+afterCommandReady idle = ready
+afterCommandReady ready = ready
+afterCommandReady (receiving bs) = idle
+afterCommandReady (executing bs) = idle
+afterCommandReady (answering a k) = idle
 
 -- "00 C4 00 00 00 0A 00 00 00 19"
 abbrev pub badSizeAnswer : List ℕ
@@ -61,50 +61,50 @@ badSizeAnswer = 0x00 ∷ 0xc4 ∷ 0x00 ∷ 0x00 ∷ 0x00 ∷ 0x0a ∷ 0x00 ∷ 0
 
 -- "20h: in Reception with no more expected. If the declared size is at least 10 and at most C, Execution, and the run number grows by one,
 -- 4,294,967,295 being followed by 0. Else Completion with 00 C4 .. Elsewhere ignored."
-abbrev pub going : ℕ → List ℕ → ℕ → Mail
-going c bs n =
+abbrev pub goAhead : ℕ → List ℕ → ℕ → Mail
+goAhead c bs n =
     cond (moreExpected c bs) (mail (receiving bs) n)
     (cond (leb 10 (sizeOf bs) && leb (sizeOf bs) c) (mail (executing bs) ((n + 1) % 2 ^ 32)) (mail (answering badSizeAnswer 0) n))
 
-abbrev pub gone : ℕ → Mailbox → ℕ → Mail
-gone c idle n = mail idle n
-gone c ready n = mail ready n
-gone c (receiving bs) n = going c bs n
-gone c (executing bs) n = mail (executing bs) n
-gone c (answering a k) n = mail (answering a k) n
+abbrev pub afterTpmGo : ℕ → Mailbox → ℕ → Mail
+afterTpmGo c idle n = mail idle n
+afterTpmGo c ready n = mail ready n
+afterTpmGo c (receiving bs) n = goAhead c bs n
+afterTpmGo c (executing bs) n = mail (executing bs) n
+afterTpmGo c (answering a k) n = mail (answering a k) n
 
 -- "02h: in Completion, reading starts over. Elsewhere ignored."
-abbrev pub retried : Mailbox → Mailbox
-retried idle = idle
-retried ready = ready
-retried (receiving bs) = receiving bs
-retried (executing bs) = executing bs
-retried (answering a k) = answering a 0
+abbrev pub afterRetry : Mailbox → Mailbox
+afterRetry idle = idle
+afterRetry ready = ready
+afterRetry (receiving bs) = receiving bs
+afterRetry (executing bs) = executing bs
+afterRetry (answering a k) = answering a 0
 
 -- a byte v at 0018 of the active locality's page: "with exactly one of these bits set, others not counted"
-abbrev pub ordered : ℕ → ℕ → Mail → Mail
-ordered c v p =
+abbrev pub afterSts : ℕ → ℕ → Mail → Mail
+afterSts c v p =
     cond (eqb (bit 6 v + bit 5 v + bit 1 v) 1)
-    (cond (eqb (bit 6 v) 1) (mail (readied (p .box)) (p .run))
-    (cond (eqb (bit 5 v) 1) (gone c (p .box) (p .run))
-    (mail (retried (p .box)) (p .run))))
+    (cond (eqb (bit 6 v) 1) (mail (afterCommandReady (p .box)) (p .run))
+    (cond (eqb (bit 5 v) 1) (afterTpmGo c (p .box) (p .run))
+    (mail (afterRetry (p .box)) (p .run))))
     p
 
 -- "A FIFO write in Ready or in Reception with more expected stores the byte; else it is ignored."
-abbrev pub stored : ℕ → ℕ → Mailbox → Mailbox
-stored c v idle = idle
-stored c v ready = receiving (v ∷ [])
-stored c v (receiving bs) = cond (moreExpected c bs) (receiving (bs ++ (v ∷ []))) (receiving bs)
-stored c v (executing bs) = executing bs
-stored c v (answering a k) = answering a k
+abbrev pub afterByte : ℕ → ℕ → Mailbox → Mailbox
+afterByte c v idle = idle
+afterByte c v ready = receiving (v ∷ [])
+afterByte c v (receiving bs) = cond (moreExpected c bs) (receiving (bs ++ (v ∷ []))) (receiving bs)
+afterByte c v (executing bs) = executing bs
+afterByte c v (answering a k) = answering a k
 
 -- "A FIFO read gives the next unread byte in Completion"
-abbrev pub fetched : Mailbox → Mailbox
-fetched idle = idle
-fetched ready = ready
-fetched (receiving bs) = receiving bs
-fetched (executing bs) = executing bs
-fetched (answering a k) = cond (ltb k (length a)) (answering a (k + 1)) (answering a k)
+abbrev pub afterFetch : Mailbox → Mailbox
+afterFetch idle = idle
+afterFetch ready = ready
+afterFetch (receiving bs) = receiving bs
+afterFetch (executing bs) = executing bs
+afterFetch (answering a k) = cond (ltb k (length a)) (answering a (k + 1)) (answering a k)
 
 -- ---- what a call does to it; m is the waiting book before the call
 
@@ -118,8 +118,8 @@ abbrev pub byActive : Model → ℕ → Bool
 byActive m o = isActive (m .active) (o / 0x1000) && not (ignoresPage m (o / 0x1000))
 
 -- "0018..001A STS; 0024..0027 FIFO"; "STS writes act at 0018 only"
-abbrev pub isSts : ℕ → Bool
-isSts o = eqb (o % 0x1000) 0x18
+abbrev pub isStsCommand : ℕ → Bool
+isStsCommand o = eqb (o % 0x1000) 0x18
 
 abbrev pub isFifo : ℕ → Bool
 isFifo o = within 0x24 0x27 (o % 0x1000)
@@ -143,8 +143,8 @@ aborts m nothing = false
 abbrev pub mailWritten : ℕ → Model → Mail → ℕ → ℕ → Mail
 mailWritten c m p o v =
     cond (aborts m (writeEvent o v)) (mail idle (p .run))
-    (cond (byActive m o && isSts o) (ordered c v p)
-    (cond (byActive m o && isFifo o) (mail (stored c v (p .box)) (p .run))
+    (cond (byActive m o && isStsCommand o) (afterSts c v p)
+    (cond (byActive m o && isFifo o) (mail (afterByte c v (p .box)) (p .run))
     p))
 
 -- "run number 0" at a power-on; reset "keeps the established flag, identity and run number"
@@ -152,7 +152,7 @@ abbrev pub mailStep : ℕ → Model → Mail → Entry → Mail
 mailStep c m p (poweredOn established identity) = mail idle 0
 mailStep c m p restarted = mail idle (p .run)
 mailStep c m p (written o v) = mailWritten c m p o v
-mailStep c m p (readAt o) = cond (isActive (m .active) (o / 0x1000) && isFifo o) (mail (fetched (p .box)) (p .run)) p
+mailStep c m p (readAt o) = cond (isActive (m .active) (o / 0x1000) && isFifo o) (mail (afterFetch (p .box)) (p .run)) p
 mailStep c m p (answered a) = mail (answering a 0) (p .run)
 mailStep c m p none = p
 

@@ -34,7 +34,7 @@ use Rattle.call_bus.specs.Bus as bus
 use Rattle.call_bus.specs.Bus.{read, readCycle, acceptedRead, writeCycle, acceptedWrite}
 use Rattle.claims.specs.Calls as call
 use Rattle.claims.specs.Calls.{State, state, left}
-use Rattle.conformance_claim.specs.Sheet.{Line, write, ignored, reads, refused, run, answer, reset, shows, Check, fresh, afterRead, afterWrite, checks, gots, wants, Holds, head, free, send, receive, complete, runs, p1, p2, p3, p4, p5, p6, p7, p8, p9, p10, p10′, p11, p12, seizures, marks, established, interrupts, onlookers, engineAnswers, allWait, highBytes, Each, SheetHolds}
+use Rattle.conformance_claim.specs.Sheet.{Line, write, ignored, reads, refused, run, answer, reset, shows, Check, fresh, afterRead, afterWrite, checks, gots, wants, Holds, head, filler, send, receive, complete, runs, p1, p2, p3, p4, p5, p6, p7, p8, p9, p10, p10′, p11, p12, seizures, marks, established, interrupts, onlookers, engineAnswers, allWait, highBytes, Each, SheetHolds}
 
 -- ---- lines played in two parts
 
@@ -115,10 +115,10 @@ abbrev six : State
 six = commanded 0 (Reception 6) (head 0x00 0x0a)
 
 abbrev ten : State
-ten = commanded 0 (Reception 10) (head 0x00 0x0a ++ free 6 4)
+ten = commanded 0 (Reception 10) (head 0x00 0x0a ++ filler 6 4)
 
 abbrev running : State
-running = commanded 1 (Execution 10) (head 0x00 0x0a ++ free 6 4)
+running = commanded 1 (Execution 10) (head 0x00 0x0a ++ filler 6 4)
 
 abbrev firstPart : List Line
 firstPart = p7 ++ send (head 0x00 0x0a) ++ (reads 0x0018 0x88 ∷ [])
@@ -127,7 +127,7 @@ abbrev secondPart : List Line
 secondPart = (ignored 0x0018 0x20 ∷ []) ++ complete 3
 
 abbrev thirdPart : List Line
-thirdPart = (ignored 0x0024 0xff ∷ []) ++ runs 1 (head 0x00 0x0a ++ free 6 4)
+thirdPart = (ignored 0x0024 0xff ∷ []) ++ runs 1 (head 0x00 0x0a ++ filler 6 4)
 
 -- the parts hold, and the first two leave this
 parts-of-8 : (d : Device) → Holds (fresh d) firstPart × (played (fresh d) firstPart ≡ six) × Holds six secondPart × (played six secondPart ≡ ten) × Holds ten thirdPart
@@ -143,9 +143,9 @@ p8-holds d =
 -- what P8 leaves runs, and is answered
 abbrev fourthPart : List Line
 fourthPart =
-    (answer 4 1 (free 0 9) ∷ answer 4 1 (free 0 1025) ∷ answer 3 0 (free 0 10) ∷ answer 3 2 (free 0 10) ∷ reads 0x0018 0x80
-    ∷ answer 0 1 (free 240 10) ∷ answer 3 1 (free 0 10) ∷ reads 0x0018 0x90 ∷ shows (free 240 10) ∷ [])
-    ++ receive (free 240 10) ++ (reads 0x0024 0xff ∷ shows [] ∷ [])
+    (answer 4 1 (filler 0 9) ∷ answer 4 1 (filler 0 1025) ∷ answer 3 0 (filler 0 10) ∷ answer 3 2 (filler 0 10) ∷ reads 0x0018 0x80
+    ∷ answer 0 1 (filler 240 10) ∷ answer 3 1 (filler 0 10) ∷ reads 0x0018 0x90 ∷ shows (filler 240 10) ∷ [])
+    ++ receive (filler 240 10) ++ (reads 0x0024 0xff ∷ shows [] ∷ [])
 
 runs-on : (played ten thirdPart ≡ running) × Holds running fourthPart
 unfolding checks calls played

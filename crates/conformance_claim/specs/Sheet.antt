@@ -130,9 +130,9 @@ abbrev pub head : ℕ → ℕ → List ℕ
 head high low = 0x00 ∷ 0xc1 ∷ 0x00 ∷ 0x00 ∷ high ∷ low ∷ []
 
 -- bytes that the paper leaves free: byte number i is i mod 251, n of them from number i on
-abbrev pub free : ℕ → ℕ → List ℕ
-free i zero = []
-free i (suc n) = i % 251 ∷ free (i + 1) n
+abbrev pub filler : ℕ → ℕ → List ℕ
+filler i zero = []
+filler i (suc n) = i % 251 ∷ filler (i + 1) n
 
 -- a FIFO write for each byte, and a FIFO read
 abbrev pub send : List ℕ → List Line
@@ -149,7 +149,7 @@ badSize = 0x00 ∷ 0xc4 ∷ 0x00 ∷ 0x00 ∷ 0x00 ∷ 0x0a ∷ 0x00 ∷ 0x00 �
 
 -- the rest of a command: n free bytes, after which more is expected, and the last one, after which it is not
 abbrev pub complete : ℕ → List Line
-complete n = send (free 6 n) ++ (reads 0x0018 0x88 ∷ []) ++ send (free (6 + n) 1) ++ (reads 0x0018 0x80 ∷ [])
+complete n = send (filler 6 n) ++ (reads 0x0018 0x88 ∷ []) ++ send (filler (6 + n) 1) ++ (reads 0x0018 0x80 ∷ [])
 
 -- go, and the command b runs as run n: no answer is there yet, and the WriteFIFO has the command
 abbrev pub runs : ℕ → List ℕ → List Line
@@ -164,7 +164,7 @@ abbrev pub p8 : List Line
 p8 =
     p7
     ++ (send (head 0x00 0x0a) ++ (reads 0x0018 0x88 ∷ ignored 0x0018 0x20 ∷ []) ++ complete 3
-    ++ (ignored 0x0024 0xff ∷ []) ++ runs 1 (head 0x00 0x0a ++ free 6 4))
+    ++ (ignored 0x0024 0xff ∷ []) ++ runs 1 (head 0x00 0x0a ++ filler 6 4))
 
 -- "P9 size 9: nine bytes, go, STS 90h; ten bytes read, then FFh and 80h; retry, 90h."
 abbrev pub p9 : List Line
@@ -175,18 +175,18 @@ p9 =
 
 -- "P10 size 1,024 runs; .."
 abbrev pub p10 : List Line
-p10 = p7 ++ (send (head 0x04 0x00) ++ complete 1017 ++ runs 1 (head 0x04 0x00 ++ free 6 1018))
+p10 = p7 ++ (send (head 0x04 0x00) ++ complete 1017 ++ runs 1 (head 0x04 0x00 ++ filler 6 1018))
 
 -- ".. 1,025 is answered 19h after 1,024 bytes."
 abbrev pub p10′ : List Line
-p10′ = p7 ++ (send (head 0x04 0x01) ++ complete 1017 ++ (shows (head 0x04 0x01 ++ free 6 1018) ∷ write 0x0018 0x20 ∷ run 0 ∷ reads 0x0018 0x90 ∷ []) ++ receive badSize)
+p10′ = p7 ++ (send (head 0x04 0x01) ++ complete 1017 ++ (shows (head 0x04 0x01 ++ filler 6 1018) ∷ write 0x0018 0x20 ∷ run 0 ∷ reads 0x0018 0x90 ∷ []) ++ receive badSize)
 
 -- "P11 size 1,024, burst at 960 received: 64; at 961: 63; at 1,023: 1."
 abbrev pub p11 : List Line
 p11 =
     p7
-    ++ (send (head 0x04 0x00) ++ send (free 6 954) ++ burst 64 ++ send (free 960 1) ++ burst 63 ++ send (free 961 62) ++ burst 1
-    ++ (shows (head 0x04 0x00 ++ free 6 1017) ∷ []))
+    ++ (send (head 0x04 0x00) ++ send (filler 6 954) ++ burst 64 ++ send (filler 960 1) ++ burst 63 ++ send (filler 961 62) ++ burst 1
+    ++ (shows (head 0x04 0x00 ++ filler 6 1017) ∷ []))
 
 -- "P12 4FFFh reads FFh; 5000h is refused, 1."
 abbrev pub p12 : List Line
@@ -230,9 +230,9 @@ onlookers =
 abbrev pub engineAnswers : List Line
 engineAnswers =
     p8
-    ++ (answer 4 1 (free 0 9) ∷ answer 4 1 (free 0 1025) ∷ answer 3 0 (free 0 10) ∷ answer 3 2 (free 0 10) ∷ reads 0x0018 0x80
-    ∷ answer 0 1 (free 240 10) ∷ answer 3 1 (free 0 10) ∷ reads 0x0018 0x90 ∷ shows (free 240 10) ∷ [])
-    ++ receive (free 240 10) ++ (reads 0x0024 0xff ∷ shows [] ∷ [])
+    ++ (answer 4 1 (filler 0 9) ∷ answer 4 1 (filler 0 1025) ∷ answer 3 0 (filler 0 10) ∷ answer 3 2 (filler 0 10) ∷ reads 0x0018 0x80
+    ∷ answer 0 1 (filler 240 10) ∷ answer 3 1 (filler 0 10) ∷ reads 0x0018 0x90 ∷ shows (filler 240 10) ∷ [])
+    ++ receive (filler 240 10) ++ (reads 0x0024 0xff ∷ shows [] ∷ [])
 
 -- all other four wait at once, and are served from the highest down
 abbrev pub allWait : List Line
