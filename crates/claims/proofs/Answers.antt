@@ -1,6 +1,6 @@
 -- Whose command runs and whose answer is read. Assumes nothing.
 use mathlib.Core.Path.{_≡_, refl, sym, ap, _∙_}
-use mathlib.Core.Bool.{Bool, true, false, cond, _&&_, _||_, true≢false}
+use mathlib.Core.Bool.{Bool, true, false, cond, _&&_, _||_, true≢false, not}
 use mathlib.Core.List.{List, [], _∷_, _++_}
 use mathlib.Core.Logic.{_⊎_, inl, inr}
 use Prim.Native.Nat.{ℕ, _+_, _-_, _/_, _≤_, _<_, _%_, _^_}
@@ -45,7 +45,7 @@ use Rattle.claims.specs.Events.{written, answered, entryOf, eventFor, ha
 use Rattle.record_shape.specs.Shape as shape
 use Rattle.claims.specs.Mailbox as mailbox
 use Rattle.claims.specs.Mailbox.{Mailbox, idle, ready, receiving, executing, answering, Mail, mail, sizeOf, afterFetch, isActive, isStsCommand, isFifo, mailStep, mailFrom, phaseOf, badSizeAnswer, moreExpected, afterCommandReady, afterTpmGo, afterRetry, afterSts, afterByte, byActive, answerOf}
-use Rattle.claims.specs.Answers.{Trail, trail, trailStep, trailFrom, endsRun, isPort, fits, answersRun, Undisturbed, Owned, OwnedClaim, hasMail}
+use Rattle.claims.specs.Answers.{isTpmGo, mayGo, goes, Trail, trail, trailStep, trailFrom, endsRun, isPort, fits, answersRun, Undisturbed, Owned, OwnedClaim, hasMail}
 use Rattle.claims.proofs.CallCases.{CallCase, same, powers, resets, looks, reads, writes, responds, call-case}
 use Rattle.claims.proofs.Padded.{byte-padded}
 use Rattle.claims.proofs.Mailbox.{active-same, write-length, Kept, one-kept, all-kept, first-kept}
@@ -158,9 +158,11 @@ same-holder (held y) (held z) = by (eqb y z) refl
     by true e = inl (ap held (eqb-true y z e))
     by false e = inr (λ i. eqb-false y z e (held-same i))
 
--- the answer a was there, or is the one that the call k brought, or is the 19h answer
-abbrev Comes : Mailbox → Call → ℕ → List ℕ → Type 0
-Comes b k n a = ((i : ℕ) × (b ≡ answering a i)) ⊎ ((run : ℕ) × (k ≡ respond run a) × (n ≡ accepted)) ⊎ (a ≡ badSizeAnswer)
+-- the answer a was there, or is the one that the call k brought, or is the 19h answer to the go that k is
+abbrev Comes : ℕ → Model → Mailbox → Call → ℕ → List ℕ → Type 0
+Comes c m b k n a =
+    ((i : ℕ) × (b ≡ answering a i)) ⊎ ((run : ℕ) × (k ≡ respond run a) × (n ≡ accepted))
+    ⊎ ((o v : ℕ) × (k ≡ write o v) × (goes c m b o v ≡ true) × (a ≡ badSizeAnswer))
 
 abbrev isAnswer : Mailbox → Bool
 isAnswer idle = false
@@ -189,71 +191,79 @@ module _ {a : List ℕ} {j : ℕ} where
       by true e = (i, ap (λ (z : List ℕ). answering z i) (this-one e))
       by false e = (i, ap (λ (z : List ℕ). answering z i) (this-one e))
 
-  module _ (c v : ℕ) (q : Mail) (k : Call) (n : ℕ) where
-    readied-comes : (b : Mailbox) → afterCommandReady b ≡ answering a j → Comes b k n a
-    readied-comes idle e = none-there ready refl e
-    readied-comes ready e = none-there ready refl e
-    readied-comes (receiving bs) e = none-there idle refl e
-    readied-comes (executing bs) e = none-there idle refl e
-    readied-comes (answering x i) e = none-there idle refl e
+  module _ (c : ℕ) (m : Model) (q : Mail) (o v : ℕ) where
+    ready-comes : (b : Mailbox) → afterCommandReady b ≡ answering a j → Comes c m b (write o v) accepted a
+    ready-comes idle e = none-there ready refl e
+    ready-comes ready e = none-there ready refl e
+    ready-comes (receiving bs) e = none-there idle refl e
+    ready-comes (executing bs) e = none-there idle refl e
+    ready-comes (answering x i) e = none-there idle refl e
 
-    gone-comes : (b : Mailbox) (r : ℕ) → afterTpmGo c b r .box ≡ answering a j → Comes b k n a
-    gone-comes idle r e = inl (j, e)
-    gone-comes ready r e = inl (j, e)
-    gone-comes (receiving bs) r e = by (moreExpected c bs) (leb 10 (sizeOf bs) && leb (sizeOf bs) c) e
+    -- where a go counts: at STS of the active locality, with a byte that is a go
+    go-comes : ((b : Mailbox) → mayGo c b ≡ true → goes c m b o v ≡ true) → (b : Mailbox) (r : ℕ) → afterTpmGo c b r .box ≡ answering a j → Comes c m b (write o v) accepted a
+    go-comes f idle r e = inl (j, e)
+    go-comes f ready r e = inl (j, e)
+    go-comes f (receiving bs) r e = by (moreExpected c bs) refl (leb 10 (sizeOf bs) && leb (sizeOf bs) c) e
       where
-        by : (t u : Bool) → cond t (mail (receiving bs) r) (cond u (mail (executing bs) ((r + 1) % 2 ^ 32)) (mail (answering badSizeAnswer 0) r)) .box ≡ answering a j → Comes (receiving bs) k n a
-        by true u e = none-there (receiving bs) refl e
-        by false true e = none-there (executing bs) refl e
-        by false false e = inr (inr (sym (this-one e)))
-    gone-comes (executing bs) r e = inl (j, e)
-    gone-comes (answering x i) r e = inl (j, e)
+        by : (t : Bool) → moreExpected c bs ≡ t → (u : Bool)
+            → cond t (mail (receiving bs) r) (cond u (mail (executing bs) ((r + 1) % 2 ^ 32)) (mail (answering badSizeAnswer 0) r)) .box ≡ answering a j → Comes c m (receiving bs) (write o v) accepted a
+        by true i u e = none-there (receiving bs) refl e
+        by false i true e = none-there (executing bs) refl e
+        by false i false e = inr (inr (o, v, refl, f (receiving bs) (ap not i), sym (this-one e)))
+    go-comes f (executing bs) r e = inl (j, e)
+    go-comes f (answering x i) r e = inl (j, e)
 
-    retried-comes : (b : Mailbox) → afterRetry b ≡ answering a j → Comes b k n a
-    retried-comes idle e = inl (j, e)
-    retried-comes ready e = inl (j, e)
-    retried-comes (receiving bs) e = inl (j, e)
-    retried-comes (executing bs) e = inl (j, e)
-    retried-comes (answering x i) e = inl (i, ap (λ (z : List ℕ). answering z i) (this-one e))
+    retry-comes : (b : Mailbox) → afterRetry b ≡ answering a j → Comes c m b (write o v) accepted a
+    retry-comes idle e = inl (j, e)
+    retry-comes ready e = inl (j, e)
+    retry-comes (receiving bs) e = inl (j, e)
+    retry-comes (executing bs) e = inl (j, e)
+    retry-comes (answering x i) e = inl (i, ap (λ (z : List ℕ). answering z i) (this-one e))
 
-    stored-comes : (b : Mailbox) → afterByte c v b ≡ answering a j → Comes b k n a
-    stored-comes idle e = inl (j, e)
-    stored-comes ready e = none-there (receiving (v ∷ [])) refl e
-    stored-comes (receiving bs) e = by (moreExpected c bs) e
+    byte-comes : (b : Mailbox) → afterByte c v b ≡ answering a j → Comes c m b (write o v) accepted a
+    byte-comes idle e = inl (j, e)
+    byte-comes ready e = none-there (receiving (v ∷ [])) refl e
+    byte-comes (receiving bs) e = by (moreExpected c bs) e
       where
-        by : (t : Bool) → cond t (receiving (bs ++ (v ∷ []))) (receiving bs) ≡ answering a j → Comes (receiving bs) k n a
+        by : (t : Bool) → cond t (receiving (bs ++ (v ∷ []))) (receiving bs) ≡ answering a j → Comes c m (receiving bs) (write o v) accepted a
         by true e = none-there (receiving (bs ++ (v ∷ []))) refl e
         by false e = none-there (receiving bs) refl e
-    stored-comes (executing bs) e = inl (j, e)
-    stored-comes (answering x i) e = inl (j, e)
+    byte-comes (executing bs) e = inl (j, e)
+    byte-comes (answering x i) e = inl (j, e)
 
-    ordered-comes : afterSts c v q .box ≡ answering a j → Comes (q .box) k n a
-    ordered-comes e = by (eqb (bit 6 v + bit 5 v + bit 1 v) 1) (eqb (bit 6 v) 1) (eqb (bit 5 v) 1) e
+    sts-comes : (byActive m o && isStsCommand o) ≡ true → afterSts c v q .box ≡ answering a j → Comes c m (q .box) (write o v) accepted a
+    sts-comes g e = by (eqb (bit 6 v + bit 5 v + bit 1 v) 1) refl (eqb (bit 6 v) 1) refl (eqb (bit 5 v) 1) refl e
       where
-        by : (t₁ t₂ t₃ : Bool) → cond t₁ (cond t₂ (mail (afterCommandReady (q .box)) (q .run)) (cond t₃ (afterTpmGo c (q .box) (q .run)) (mail (afterRetry (q .box)) (q .run)))) q .box ≡ answering a j → Comes (q .box) k n a
-        by true true t₃ e = readied-comes (q .box) e
-        by true false true e = gone-comes (q .box) (q .run) e
-        by true false false e = retried-comes (q .box) e
-        by false t₂ t₃ e = inl (j, e)
+        goes-if : isTpmGo v ≡ true → (b : Mailbox) → mayGo c b ≡ true → goes c m b o v ≡ true
+        goes-if i b f = rw (g, i, f) refl
 
-    written-comes : (x y z : Bool) → cond x (mail idle (q .run)) (cond y (afterSts c v q) (cond z (mail (afterByte c v (q .box)) (q .run)) q)) .box ≡ answering a j → Comes (q .box) k n a
-    written-comes true y z e = none-there idle refl e
-    written-comes false true z e = ordered-comes e
-    written-comes false false true e = stored-comes (q .box) e
-    written-comes false false false e = inl (j, e)
+        by : (t₁ : Bool) → eqb (bit 6 v + bit 5 v + bit 1 v) 1 ≡ t₁ → (t₂ : Bool) → eqb (bit 6 v) 1 ≡ t₂ → (t₃ : Bool) → eqb (bit 5 v) 1 ≡ t₃
+            → cond t₁ (cond t₂ (mail (afterCommandReady (q .box)) (q .run)) (cond t₃ (afterTpmGo c (q .box) (q .run)) (mail (afterRetry (q .box)) (q .run)))) q .box ≡ answering a j
+            → Comes c m (q .box) (write o v) accepted a
+        by true i true k t₃ l e = ready-comes (q .box) e
+        by true i false k true l e = go-comes (goes-if (rw (i, k, l) refl)) (q .box) (q .run) e
+        by true i false k false l e = retry-comes (q .box) e
+        by false i t₂ k t₃ l e = inl (j, e)
 
-  read-comes : (q : Mail) (k : Call) (n : ℕ) (t : Bool) → cond t (mail (afterFetch (q .box)) (q .run)) q .box ≡ answering a j → Comes (q .box) k n a
-  read-comes q k n true e = inl (fetched-comes (q .box) e)
-  read-comes q k n false e = inl (j, e)
+    written-comes : (x y z : Bool) → (byActive m o && isStsCommand o) ≡ y → cond x (mail idle (q .run)) (cond y (afterSts c v q) (cond z (mail (afterByte c v (q .box)) (q .run)) q)) .box ≡ answering a j
+        → Comes c m (q .box) (write o v) accepted a
+    written-comes true y z i e = none-there idle refl e
+    written-comes false true z i e = sts-comes i e
+    written-comes false false true i e = byte-comes (q .box) e
+    written-comes false false false i e = inl (j, e)
+
+  read-comes : (c : ℕ) (m : Model) (q : Mail) (k : Call) (n : ℕ) (t : Bool) → cond t (mail (afterFetch (q .box)) (q .run)) q .box ≡ answering a j → Comes c m (q .box) k n a
+  read-comes c m q k n true e = inl (fetched-comes (q .box) e)
+  read-comes c m q k n false e = inl (j, e)
 
 call-comes : (c : ℕ) (m : Model) (q : Mail) {s s′ : State} {k : Call} {n : ℕ} {a : List ℕ} {j : ℕ} → CallCase s k n s′ → mailStep c m q (entryOf k n) .box ≡ answering a j
-    → Comes (q .box) k n a
+    → Comes c m (q .box) k n a
 call-comes c m q {j = j} (same p i) e = inl (j, rw i at e)
 call-comes c m q (powers k) e = none-there idle refl e
 call-comes c m q (resets i) e = none-there idle refl e
-call-comes c m q (looks {o = o} i) e = read-comes q (read o) accepted (isActive (m .active) (o / 0x1000) && isFifo o) e
-call-comes c m q (reads {o = o} i h) e = read-comes q (read o) accepted (isActive (m .active) (o / 0x1000) && isFifo o) e
-call-comes c m q (writes {o = o} {v = v} w) e = written-comes c v q (write o v) accepted (mailbox.aborts m (writeEvent o v)) (byActive m o && isStsCommand o) (byActive m o && isFifo o) e
+call-comes c m q (looks {o = o} i) e = read-comes c m q (read o) accepted (isActive (m .active) (o / 0x1000) && isFifo o) e
+call-comes c m q (reads {o = o} i h) e = read-comes c m q (read o) accepted (isActive (m .active) (o / 0x1000) && isFifo o) e
+call-comes c m q (writes {o = o} {v = v} w) e = written-comes c m q o v (mailbox.aborts m (writeEvent o v)) (byActive m o && isStsCommand o) (byActive m o && isFifo o) refl e
 call-comes c m q (responds {run = r} i) e = inr (inl (r, ap (respond r) (this-one e), refl))
 
 -- ---- the claim

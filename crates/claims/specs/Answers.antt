@@ -135,9 +135,11 @@ pub record Owned (c : ℕ) (m : Model) (p : Mail) (t : Trail) (s : State) : Type
   pub has : (a : List ℕ) (k : ℕ) → p .box ≡ answering a k → m .active ≡ held (t .starter)
   -- and it has been active ever since: no call changes the active locality and leaves a command or an answer
   pub stays : (k : Call) → hasMail (mailStep c m p (entryOf k (refusalOf k s)) .box) ≡ true → step m (happens k s) .active ≡ m .active
-  -- an answer that is there was there before the call, or is the one that an accepted call of the engine brought, or is the 19h answer
+  -- an answer that is there was there before the call, or is the one that an accepted call of the engine brought, or is the 19h answer to the go that
+  -- the active locality wrote
   pub comes : (k : Call) (a : List ℕ) (j : ℕ) → mailStep c m p (entryOf k (refusalOf k s)) .box ≡ answering a j
-      → ((i : ℕ) × (p .box ≡ answering a i)) ⊎ ((run : ℕ) × (k ≡ respond run a) × (refusalOf k s ≡ accepted)) ⊎ (a ≡ badSizeAnswer)
+      → ((i : ℕ) × (p .box ≡ answering a i)) ⊎ ((run : ℕ) × (k ≡ respond run a) × (refusalOf k s ≡ accepted))
+      ⊎ ((o v : ℕ) × (k ≡ write o v) × (goes c m (p .box) o v ≡ true) × (a ≡ badSizeAnswer))
   -- an accepted answer is one to the run that is in Execution
   pub accepts : (run : ℕ) (a : List ℕ) → refusalOf (respond run a) s ≡ accepted → (bs : List ℕ) × (p .box ≡ executing bs) × (p .run ≡ run)
   -- a byte that the active locality reads from its FIFO, with bytes unread, is the next one of that answer, counted from the entry into

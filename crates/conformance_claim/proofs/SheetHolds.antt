@@ -1,17 +1,18 @@
 -- Every entry of the bench sheet holds, by computation. Assumes nothing.
 use mathlib.Core.Path.{_≡_, refl}
-use mathlib.Core.Bool.{false}
+use mathlib.Core.Bool.{true, false}
 use mathlib.Core.List.{List, [], _∷_, _++_}
 use Prim.Native.Nat.{ℕ, _-_}
-use lib.ListN.{length, replicate}
+use lib.ListN.{length, drop, replicate}
 use Rattle.arbiter.specs.State.{locality, withActive, freshArbiter}
 use Rattle.arbiter.specs.Rules.{accessCommand, request, release, seize, clearSeized, writeAccess, handover}
 use Rattle.arbiter.specs.declared.Owner.the-variants.{Held}
 use Rattle.pcr.specs.Bank as bank
 use Rattle.record.specs.Record.{noCauses, closedLaunch, freshDevice, withParts}
+use Rattle.record.specs.declared.Causes.{Causes}
 use Rattle.record.specs.declared.Device.{Device}
 use Rattle.record.specs.declared.Phase.{Phase}
-use Rattle.record.specs.declared.Phase.the-variants.{Reception, Execution}
+use Rattle.record.specs.declared.Phase.the-variants.{Reception, Execution, Completion}
 use Rattle.record_shape.specs.Shape.{lengthsAllowed, inShape}
 use Rattle.reg_map.specs.Map.{registerAt}
 use Rattle.reg_access.specs.Access.{accessBits}
@@ -34,7 +35,7 @@ use Rattle.call_bus.specs.Bus as bus
 use Rattle.call_bus.specs.Bus.{read, readCycle, acceptedRead, writeCycle, acceptedWrite}
 use Rattle.claims.specs.Calls as call
 use Rattle.claims.specs.Calls.{State, state, left}
-use Rattle.conformance_claim.specs.Sheet.{Line, write, ignored, reads, refused, run, answer, reset, shows, Check, fresh, afterRead, afterWrite, checks, gots, wants, Holds, head, filler, send, receive, complete, runs, p1, p2, p3, p4, p5, p6, p7, p8, p9, p10, p10′, p11, p12, seizures, marks, established, interrupts, onlookers, engineAnswers, allWait, highBytes, Each, SheetHolds}
+use Rattle.conformance_claim.specs.Sheet.{Line, write, ignored, reads, refused, run, answer, reset, shows, Check, fresh, afterRead, afterWrite, checks, gots, wants, Holds, head, filler, send, receive, badSize, complete, runs, p1, p2, p3, p4, p5, p6, p7, p8, p9, p10, p10′, p11, p12, seizures, marks, established, interrupts, onlookers, engineAnswers, allWait, highBytes, Each, SheetHolds}
 
 -- ---- lines played in two parts
 
@@ -98,18 +99,21 @@ last-two d = (refl, (refl, tt))
 
 -- P8 by parts, since each `ignored` compares all that a call leaves with all that it was handed. Between the parts 0 is active and n bytes
 -- are received, b
-abbrev commanded : ℕ → Phase → List ℕ → State
-commanded n p b =
+abbrev owned : ℕ → Phase → Causes → List ℕ → List ℕ → State
+owned n p k w r =
     state
     (withParts (freshDevice false (replicate 5 0) 0)
     (record {
       arbiter = withActive freshArbiter (Held (locality 0));
-      interrupts = record { global = false; enable = noCauses; status = commandReadyCause };
+      interrupts = record { global = false; enable = noCauses; status = k };
       established = false;
       run = n;
     })
     p closedLaunch bank.fresh)
-    (b ++ replicate (1024 - length b) 0) (replicate 1024 0)
+    w r
+
+abbrev commanded : ℕ → Phase → List ℕ → State
+commanded n p b = owned n p commandReadyCause (b ++ replicate (1024 - length b) 0) (replicate 1024 0)
 
 abbrev six : State
 six = commanded 0 (Reception 6) (head 0x00 0x0a)
@@ -158,10 +162,33 @@ engine-holds d =
     (holds-on six ten secondPart (thirdPart ++ fourthPart) (h .2) (h .3)
     (holds-on ten running thirdPart fourthPart (h .4) (runs-on .0) (runs-on .1)))
 
+-- the 19h answer with two bytes read, before and after others looked on
+abbrev halfRead : State
+halfRead =
+    owned 0 (Completion 10 2) (record { «command_ready» = true; «locality_change» = false; «data_avail» = true }) (replicate 1024 0) (badSize ++ replicate 1014 0)
+
+abbrev firstLook : List Line
+firstLook =
+    p7
+    ++ (send (head 0x00 0x09) ++ complete 2
+    ++ (write 0x0018 0x20 ∷ reads 0x1018 0xff ∷ reads 0x1024 0xff ∷ reads 0x0024 0x00 ∷ reads 0x0024 0xc4 ∷ []))
+
+abbrev secondLook : List Line
+secondLook =
+    (ignored 0x1018 0x02 ∷ ignored 0x2024 0x55 ∷ ignored 0x4018 0x40 ∷ reads 0x3024 0xff ∷ reads 0x0018 0x90 ∷ [])
+    ++ receive (drop 2 badSize) ++ (reads 0x0018 0x80 ∷ [])
+
+looks-on : (d : Device) → Holds (fresh d) firstLook × (played (fresh d) firstLook ≡ halfRead) × Holds halfRead secondLook
+unfolding checks calls played
+looks-on d = (refl, refl, refl)
+
+onlookers-hold : (d : Device) → Holds (fresh d) onlookers
+onlookers-hold d = let h : _ = looks-on d in holds-on (fresh d) halfRead firstLook secondLook (h .0) (h .1) (h .2)
+
 -- the further entries
-further : (d : Device) → Each (fresh d) (seizures ∷ marks ∷ established ∷ interrupts ∷ onlookers ∷ [])
+further : (d : Device) → Each (fresh d) (seizures ∷ marks ∷ established ∷ interrupts ∷ [])
 unfolding checks calls
-further d = (refl, (refl, (refl, (refl, (refl, tt)))))
+further d = (refl, (refl, (refl, (refl, tt))))
 
 served-down : (d : Device) → Each (fresh d) (allWait ∷ highBytes ∷ [])
 unfolding checks calls
@@ -176,11 +203,11 @@ each-on s (e ∷ a) b h k = (h .0, each-on s a b (h .1) k)
 pub sheet-holds : SheetHolds
 sheet-holds d =
     let s : State = fresh d in
-    let ours : List (List Line) = engineAnswers ∷ allWait ∷ highBytes ∷ [] in
-    let others : List (List Line) = seizures ∷ marks ∷ established ∷ interrupts ∷ onlookers ∷ ours in
+    let ours : List (List Line) = onlookers ∷ engineAnswers ∷ allWait ∷ highBytes ∷ [] in
+    let others : List (List Line) = seizures ∷ marks ∷ established ∷ interrupts ∷ ours in
     let fromEleven : List (List Line) = p11 ∷ p12 ∷ others in
     each-on s (p1 ∷ p2 ∷ p3 ∷ p4 ∷ p5 ∷ p6 ∷ p7 ∷ []) (p8 ∷ p9 ∷ p10 ∷ p10′ ∷ fromEleven) (before-8 d) (
       p8-holds d,
       each-on s (p9 ∷ p10 ∷ []) (p10′ ∷ fromEleven) (after-8 d) (each-on s (p10′ ∷ []) fromEleven (after-10 d) (each-on s (p11 ∷ p12 ∷ []) others (last-two d)
-          (each-on s (seizures ∷ marks ∷ established ∷ interrupts ∷ onlookers ∷ []) ours (further d) (engine-holds d, served-down d)))),
+          (each-on s (seizures ∷ marks ∷ established ∷ interrupts ∷ []) ours (further d) (onlookers-hold d, (engine-holds d, served-down d))))),
     )

@@ -217,13 +217,13 @@ interrupts =
     ∷ reads 0x1008 0x8d ∷ reads 0x2008 0x8d ∷ reads 0x400b 0x80
     ∷ write 0x1018 0x40 ∷ reads 0x0010 0x80 ∷ write 0x0010 0x80 ∷ reads 0x1010 0x80 ∷ write 0x1010 0x80 ∷ reads 0x3010 0x00 ∷ []
 
--- in Completion a locality that is not active reads FFh at STS and FIFO, and what the active one reads goes on as if it were not there
+-- in Completion a locality that is not active reads FFh at STS and FIFO, and its writes there change nothing
 abbrev pub onlookers : List Line
 onlookers =
     p7
     ++ (send (head 0x00 0x09) ++ complete 2
     ++ (write 0x0018 0x20 ∷ reads 0x1018 0xff ∷ reads 0x1024 0xff ∷ reads 0x0024 0x00 ∷ reads 0x0024 0xc4
-    ∷ write 0x1018 0x02 ∷ write 0x2024 0x55 ∷ write 0x4018 0x40 ∷ reads 0x3024 0xff ∷ reads 0x0018 0x90 ∷ [])
+    ∷ ignored 0x1018 0x02 ∷ ignored 0x2024 0x55 ∷ ignored 0x4018 0x40 ∷ reads 0x3024 0xff ∷ reads 0x0018 0x90 ∷ [])
     ++ receive (drop 2 badSize) ++ (reads 0x0018 0x80 ∷ []))
 
 -- an answer of 9 bytes and one of C + 1 are refused, and so is one with another number; one of 10 bytes is accepted and read, and not twice
