@@ -1,17 +1,20 @@
 // The calls that a line of the sheet names.
-ghost use Prim.Native.Nat.{_≤_};
 use conformance_lines::line::Step;
 use conformance_lines::line::answer;
-use conformance_lines::line::limited;
+use conformance_lines::line::free_bytes;
+use conformance_lines::line::front;
 use conformance_lines::line::place;
 use conformance_lines::line::times;
 use conformance_lines::results::show_answer;
+use conformance_lines::results::show_fill;
 use conformance_lines::results::show_pcr;
 use conformance_lines::results::show_power_on;
 use conformance_lines::results::show_read;
+use conformance_lines::results::show_reset;
 use conformance_lines::results::show_run;
 use conformance_lines::results::show_text;
 use conformance_lines::results::show_unknown;
+use conformance_lines::results::show_window;
 use conformance_lines::results::show_write;
 use pcr::PcrIndex;
 use record::Device;
@@ -26,6 +29,13 @@ struct Sent {
 pub fn power_on(w: &mut [u8], r: &mut [u8], s: Step) -> Device {
     let o = tis::power_on(false, [0u8; 5], w, r);
     show_power_on(s, o.refusal);
+    o.device
+}
+
+// The refusal number expected is the line's byte.
+pub fn reset(device: Device, w: &mut [u8], r: &mut [u8], s: Step) -> Device {
+    let o = tis::reset(device, w, r);
+    show_reset(s, o.refusal);
     o.device
 }
 
@@ -55,14 +65,12 @@ pub fn write(device: Device, w: &mut [u8], r: &mut [u8], s: Step) -> Device {
     t.device
 }
 
-// The first n bytes are written at the offset, one after the other.
-fn send(device: Device, w: &mut [u8], r: &mut [u8], offset: u64, bytes: [u8; 40], n: usize) -> Sent
-    requires { ⌜ n ≤ 40 ⌝ }
-{
+// The bytes are written at the offset, one after the other.
+fn send(device: Device, w: &mut [u8], r: &mut [u8], offset: u64, bytes: &[u8]) -> Sent {
     let mut d = device;
     let mut refusals: u8 = 0;
     let mut i: usize = 0;
-    while i < n {
+    while i < bytes.len() {
         let v = bytes[i];
         i += 1;
         let o = tis::write(d, w, r, offset, v);
@@ -75,11 +83,35 @@ fn send(device: Device, w: &mut [u8], r: &mut [u8], offset: u64, bytes: [u8; 40]
     }
 }
 
+// The first n characters are written at the offset.
+fn send_text(
+    device: Device,
+    w: &mut [u8],
+    r: &mut [u8],
+    offset: u64,
+    text: [u8; 40],
+    n: usize,
+) -> Sent {
+    send(device, w, r, offset, front(&text, n))
+}
+
 // As many characters of the line as its byte says, 40 at most, are written at the offset.
 pub fn text(device: Device, w: &mut [u8], r: &mut [u8], s: Step) -> Device {
     let rest = s.rest;
-    let t = send(device, w, r, place(s), rest, limited(s, 40));
+    let t = send_text(device, w, r, place(s), rest, s.byte as usize);
     show_text(s, t.refusals);
+    t.device
+}
+
+// Free bytes from the line's byte on are written at the offset, as many as the line says, 1,025 at most.
+pub fn fill(device: Device, w: &mut [u8], r: &mut [u8], s: Step) -> Device {
+    let rest = s.rest;
+    let mut b = [0u8; 1025];
+    free_bytes(&mut b, s.byte);
+    let n = times(rest);
+    let part = front(&b, n as usize);
+    let t = send(device, w, r, place(s), part);
+    show_fill(s, n, t.refusals);
     t.device
 }
 
@@ -94,10 +126,38 @@ pub fn read(device: Device, w: &[u8], r: &[u8], s: Step) -> Device {
 pub fn respond(device: Device, w: &mut [u8], r: &mut [u8], s: Step) -> Device {
     let rest = s.rest;
     let a = answer(rest);
-    let n = limited(s, 20);
-    let o = tis::respond(device, w, r, s.low as u32, &a[..n]);
+    let part = front(&a, s.byte as usize);
+    let o = tis::respond(device, w, r, s.low as u32, part);
     show_answer(s, o.refusal);
     o.device
+}
+
+// So too, with free bytes from the line's byte on, as many as the line says, 1,025 at most.
+pub fn respond_free(device: Device, w: &mut [u8], r: &mut [u8], s: Step) -> Device {
+    let rest = s.rest;
+    let mut b = [0u8; 1025];
+    free_bytes(&mut b, s.byte);
+    let n = times(rest);
+    let part = front(&b, n as usize);
+    let o = tis::respond(device, w, r, s.low as u32, part);
+    show_answer(s, o.refusal);
+    o.device
+}
+
+// A window is never longer than 4,096 bytes; the digest of a longer one is left out.
+fn digest(part: &[u8]) -> [u8; 40] {
+    if part.len() > 4096 {
+        return [b'-'; 40];
+    }
+    sha1_text::hex(sha1::hash(part))
+}
+
+// The window has as many bytes as the offset says, with that digest; the refusal number expected is the line's byte.
+pub fn window<'a>(device: Device, w: &'a [u8], r: &'a [u8], s: Step) -> Device {
+    let mut refusal: u8 = 0;
+    let part = tis::window(device, w, r, &mut refusal);
+    show_window(s, part.len(), digest(part), refusal);
+    device
 }
 
 pub fn run(device: Device, s: Step) -> Device {

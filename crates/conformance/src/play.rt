@@ -1,11 +1,15 @@
 // Plays the lines of the sheet: each is a call of the register front and a line that shows what it gave.
+use crate::calls::fill;
 use crate::calls::pcr;
 use crate::calls::power_on;
 use crate::calls::read;
+use crate::calls::reset;
 use crate::calls::respond;
+use crate::calls::respond_free;
 use crate::calls::run;
 use crate::calls::text;
 use crate::calls::unknown;
+use crate::calls::window;
 use crate::calls::write;
 use conformance_lines::line::Step;
 use conformance_lines::line::parsed;
@@ -16,10 +20,14 @@ fn take(device: Device, w: &mut [u8], r: &mut [u8], s: Step) -> Device {
     let kind = s.kind;
     match kind {
         b'p' => power_on(w, r, s),
+        b'x' => reset(device, w, r, s),
         b'w' => write(device, w, r, s),
         b'm' => text(device, w, r, s),
+        b'f' => fill(device, w, r, s),
         b'r' => read(device, w, r, s),
         b'e' => respond(device, w, r, s),
+        b'g' => respond_free(device, w, r, s),
+        b's' => window(device, w, r, s),
         b'n' => run(device, s),
         b'v' => pcr(device, s),
         b' ' => device,

@@ -1,7 +1,5 @@
 // A line of the sheet: 22 characters that name the entry, a letter that says what is done, an offset, a byte, and up to 40 characters more.
-ghost use mathlib.Core.Path.{_≡_};
-ghost use Prim.Native.Nat.{_<_, _≤_};
-ghost use lib.ListN.{length};
+ghost use Prim.Native.Nat.{_<_};
 
 pub struct Step {
     pub label: [u8; 22],
@@ -77,21 +75,27 @@ pub fn times(rest: [u8; 40]) -> u64
     wide(a) * 65536 + wide(b) * 256 + wide(c)
 }
 
-// The line's byte as a length, and the most that it may be.
-pub fn limited(s: Step, most: usize) -> usize
-    ensures { λ r. ⌜ r ≤ most ⌝ }
-{
-    let n = s.byte as usize;
-    if n <= most {
-        return n;
+// The first n bytes, or all if there are fewer.
+pub fn front<'a>(all: &'a [u8], n: usize) -> &'a [u8] {
+    if n <= all.len() {
+        return &all[..n];
     }
-    most
+    all
+}
+
+// Bytes that the sheet leaves free: the first one and those after it, modulo 251.
+pub fn free_bytes(out: &mut [u8], first: u8) {
+    let mut v = first % 251;
+    let mut i: usize = 0;
+    while i < out.len() {
+        out[i] = v;
+        v = (v + 1) % 251;
+        i += 1;
+    }
 }
 
 // Twenty bytes, two hexadecimal digits each.
-pub fn answer(rest: [u8; 40]) -> [u8; 20]
-    ensures { λ r. ⌜ 20 ≡ length r ⌝ }
-{
+pub fn answer(rest: [u8; 40]) -> [u8; 20] {
     let mut a = [0u8; 20];
     let mut i: usize = 0;
     while i < 20 {

@@ -1,6 +1,7 @@
 // What came of each kind of line, beside what it expects.
 use crate::line::Step;
 use crate::line::byte;
+use crate::line::place;
 use crate::show::compare;
 use crate::show::compare_texts;
 use crate::show::hex;
@@ -26,15 +27,37 @@ pub fn show_power_on(s: Step, refusal: u8) {
     compare(0, refusal, true);
 }
 
+pub fn show_reset(s: Step, refusal: u8) {
+    named(s);
+    say(b"reset                         refusal   ");
+    compare(s.byte, refusal, true);
+}
+
+// The low three bytes of a count.
+fn count(n: u64) {
+    hex((n / 65536 % 256) as u8);
+    hex((n / 256 % 256) as u8);
+    hex((n % 256) as u8);
+}
+
 pub fn show_write(s: Step, n: u64, refusals: u8) {
     let rest = s.rest;
     cycle(b"write to ", s);
     say(b", ");
     hex(s.byte);
     say(b" x ");
-    hex((n / 65536 % 256) as u8);
-    hex((n / 256 % 256) as u8);
-    hex((n % 256) as u8);
+    count(n);
+    say(b"    refusals  ");
+    compare(byte(rest[7], rest[8]), refusals, true);
+}
+
+pub fn show_fill(s: Step, n: u64, refusals: u8) {
+    let rest = s.rest;
+    cycle(b"write to ", s);
+    say(b", ");
+    hex(s.byte);
+    say(b".. ");
+    count(n);
     say(b"    refusals  ");
     compare(byte(rest[7], rest[8]), refusals, true);
 }
@@ -60,6 +83,18 @@ pub fn show_answer(s: Step, refusal: u8) {
     hex(s.low);
     say(b"             refusal   ");
     compare(s.high, refusal, true);
+}
+
+// The window's length and the digest of its bytes.
+pub fn show_window(s: Step, length: usize, got: [u8; 40], refusal: u8) {
+    let n = length as u64;
+    cycle(b"window of ", s);
+    say(b", got ");
+    count(n);
+    say(b"    refusal   ");
+    let same = pair(s.byte, refusal);
+    let expected = s.rest;
+    compare_texts(expected, got, same & (n == place(s)));
 }
 
 pub fn show_run(s: Step, run: u32) {

@@ -7,11 +7,11 @@ use Rattle.conformance.proofs.calls.send.Statement.{statement}
 use Rattle.conformance.proofs.calls.send.Tie as tie
 
 abbrev Inv-loop : tie.InvT-loop
-Inv-loop w₀ r₀ offset n bytes d₀ refusals₀ i₀ w r d refusals i =
-    (n ≤ 40) × (i ≤ n) × (length w ≡ length w₀) × (length r ≡ length r₀)
+Inv-loop w₀ r₀ offset bytes d₀ refusals₀ i₀ w r d refusals i =
+    (i ≤ length bytes) × (length w ≡ length w₀) × (length r ≡ length r₀)
 
 abbrev μ-loop : tie.MeasureT-loop
-μ-loop w₀ r₀ offset n bytes d₀ refusals₀ i₀ w r d refusals i = n - i
+μ-loop w₀ r₀ offset bytes d₀ refusals₀ i₀ w r d refusals i = length bytes - i
 
 pub send-spec : {M : Type 1} → statement M
 send-spec =

@@ -1,13 +1,11 @@
 -- Each turn reads two digits. Assumes nothing.
-use mathlib.Core.Path.{_≡_}
 use Prim.Native.Nat.{_-_, _≤_}
-use lib.ListN.{length}
 use borrow.Author.Needs.{needs}
 use Rattle.conformance_lines.proofs.line.answer.Statement.{statement}
 use Rattle.conformance_lines.proofs.line.answer.Tie as tie
 
 abbrev Inv-loop : tie.InvT-loop
-Inv-loop rest a₀ i₀ a i = (i ≤ 20) × (20 ≡ length a)
+Inv-loop rest a₀ i₀ a i = i ≤ 20
 
 abbrev μ-loop : tie.MeasureT-loop
 μ-loop rest a₀ i₀ a i = 20 - i
