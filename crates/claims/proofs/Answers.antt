@@ -45,7 +45,7 @@ use Rattle.claims.specs.Events.{written, answered, entryOf, eventFor, ha
 use Rattle.record_shape.specs.Shape as shape
 use Rattle.claims.specs.Mailbox as mailbox
 use Rattle.claims.specs.Mailbox.{Mailbox, idle, ready, receiving, executing, answering, Mail, mail, sizeOf, afterFetch, isActive, isStsCommand, isFifo, mailStep, mailFrom, phaseOf, badSizeAnswer, moreExpected, afterCommandReady, afterTpmGo, afterRetry, afterSts, afterByte, byActive, answerOf}
-use Rattle.claims.specs.Answers.{isTpmGo, mayGo, goes, Trail, trail, trailStep, trailFrom, endsRun, isPort, fits, answersRun, Undisturbed, Owned, OwnedClaim, hasMail}
+use Rattle.claims.specs.Answers.{isTpmGo, mayGo, goes, Trail, trail, trailStep, trailFrom, endsRun, isPort, fits, AnswersNot, Undisturbed, Owned, OwnedClaim, hasMail}
 use Rattle.claims.proofs.CallCases.{CallCase, same, powers, resets, looks, reads, writes, responds, call-case}
 use Rattle.claims.proofs.Padded.{byte-padded}
 use Rattle.claims.proofs.Mailbox.{active-same, write-length, Kept, one-kept, all-kept, first-kept}
@@ -108,7 +108,7 @@ module _ {c : ℕ} {m : Model} {q : Mail} (s : State) (h : Kept c m q s) where
       rw (eq-eqb (q .run) n (accepted-run s h n a e .2), le-leb 10 (length a) (ltb-false (length a) 10 (k .0)), le-leb (length a) c u) refl
 
   -- a call that neither ends the run nor answers it leaves it
-  run-stays : (bs : List ℕ) → q .box ≡ executing bs → (k : Call) → endsRun m (entryOf k (refusalOf k s)) ≡ false → answersRun c (q .run) k ≡ false
+  run-stays : (bs : List ℕ) → q .box ≡ executing bs → (k : Call) → endsRun m (entryOf k (refusalOf k s)) ≡ false → AnswersNot c (q .run) k
       → mailStep c m q (entryOf k (refusalOf k s)) ≡ q
   run-stays bs e k f g = by (call-case k s) f g
     where
@@ -119,14 +119,14 @@ module _ {c : ℕ} {m : Model} {q : Mail} (s : State) (h : Kept c m q s) where
       read-on true = rw e refl
       read-on false = refl
 
-      by : {k : Call} {n : ℕ} {s′ : State} → CallCase s k n s′ → endsRun m (entryOf k n) ≡ false → answersRun c (q .run) k ≡ false → mailStep c m q (entryOf k n) ≡ q
+      by : {k : Call} {n : ℕ} {s′ : State} → CallCase s k n s′ → endsRun m (entryOf k n) ≡ false → AnswersNot c (q .run) k → mailStep c m q (entryOf k n) ≡ q
       by (same p i) f g = rw i refl
       by (powers k) f g = absurd (true≢false f)
       by (resets i) f g = absurd (true≢false f)
       by (looks {o = o} i) f g = read-on (isActive (m .active) (o / 0x1000) && isFifo o)
       by (reads {o = o} i j) f g = read-on (isActive (m .active) (o / 0x1000) && isFifo o)
       by (writes {o = o} {v = v} k) f g = ap (λ (x : Mail). mailStep c m x (written o v)) is ∙ goes-on c m bs (q .run) o v f ∙ sym is
-      by (responds {run = n} {a = a} i) f g = absurd (true≢false (sym (accepts-fitting n a i) ∙ g))
+      by (responds {run = n} {a = a} i) f g = absurd (true≢false (sym (accepts-fitting n a i) ∙ g n a refl))
 
 answered-after : (c : ℕ) (m : Model) (q : Mail) (s : State) (bs : List ℕ) → Kept c m q s → Placed (s .device) → q .box ≡ executing bs → (cs : List Call) → Undisturbed c (q .run) m s cs
     → (a : List ℕ) → 10 ≤ length a → length a ≤ c → refusalOf (respond (q .run) a) (after s cs) ≡ accepted

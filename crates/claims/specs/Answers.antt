@@ -12,7 +12,7 @@ use Rattle.bits.specs.Bits.{bit}
 use Rattle.reg_layout.specs.Offsets.{within}
 use Rattle.refusal.specs.Refusal.{accepted}
 use Rattle.arbiter_model.specs.Model.{Model, held, writeEvent, step, fresh}
-use Rattle.claims.specs.Calls.{Call, powerOn, reset, read, write, respond, pcrValue, interruptLine, mayReset, mayExtend, window, State, nothing, byte, bytes, Answer, gives, called, refusalOf, left, after, StartsAccepted, OverLists}
+use Rattle.claims.specs.Calls.{Call, read, write, respond, window, State, nothing, byte, bytes, Answer, gives, called, refusalOf, left, after, StartsAccepted, OverLists}
 use Rattle.claims.specs.Events.{Entry, poweredOn, restarted, written, readAt, answered, none, entryOf, eventFor, happens, modelAfter}
 use Rattle.claims.specs.Mailbox.{Mailbox, idle, ready, receiving, executing, answering, Mail, mail, sizeOf, moreExpected, badSizeAnswer, isActive, byActive, isStsCommand, isFifo, aborts, mailStep, mailAfter}
 
@@ -105,23 +105,15 @@ endsRun m none = false
 abbrev pub fits : ℕ → ℕ → ℕ → List ℕ → Bool
 fits c n run a = eqb n run && (leb 10 (length a) && leb (length a) c)
 
-abbrev pub answersRun : ℕ → ℕ → Call → Bool
-answersRun c n (powerOn established identity) = false
-answersRun c n reset = false
-answersRun c n (read o) = false
-answersRun c n (write o v) = false
-answersRun c n (respond run a) = fits c n run a
-answersRun c n (pcrValue i) = false
-answersRun c n interruptLine = false
-answersRun c n (mayReset i x) = false
-answersRun c n (mayExtend i x) = false
-answersRun c n window = false
+-- a call that is no such answer
+abbrev pub AnswersNot : ℕ → ℕ → Call → Type 0
+AnswersNot c n k = (run : ℕ) (a : List ℕ) → k ≡ respond run a → fits c n run a ≡ false
 
 -- calls that neither end the run n nor answer it, each handed what the last one left; m is the waiting book before them
 unfoldable pub Undisturbed : ℕ → ℕ → Model → State → List Call → Type 0
 Undisturbed c n m s [] = Unit {0}
 Undisturbed c n m s (k ∷ ks) =
-    (endsRun m (entryOf k (refusalOf k s)) ≡ false) × (answersRun c n k ≡ false) × Undisturbed c n (step m (happens k s)) (left k s) ks
+    (endsRun m (entryOf k (refusalOf k s)) ≡ false) × AnswersNot c n k × Undisturbed c n (step m (happens k s)) (left k s) ks
 
 -- ---- the claim
 
