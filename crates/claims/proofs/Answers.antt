@@ -13,7 +13,6 @@ use Rattle.refusal.specs.Refusal.{accepted}
 use Rattle.claims.proofs.Residue.{Moved, turned}
 use Rattle.claims.specs.Demand3.{activeIn}
 use Rattle.record.specs.declared.Phase.the-variants.{Idle}
-use Rattle.bits.specs.Bits.{bit}
 use Rattle.arbiter_model.proofs.ModelLaws.{not-free, held-same}
 use Rattle.reg_layout.specs.Offsets.{within, inFour, placeOf, hashStart, hashEnd}
 use Rattle.reg_layout.proofs.Within.{within-then}
@@ -44,8 +43,11 @@ use Rattle.claims.specs.Calls.{Call, powerOn, read, write, respond, wind
 use Rattle.claims.specs.Events.{written, answered, entryOf, eventFor, happens, events, modelAfter}
 use Rattle.record_shape.specs.Shape as shape
 use Rattle.claims.specs.Mailbox as mailbox
-use Rattle.claims.specs.Mailbox.{Mailbox, idle, ready, receiving, executing, answering, Mail, mail, sizeOf, afterFetch, isActive, isStsCommand, isFifo, mailStep, mailFrom, phaseOf, badSizeAnswer, moreExpected, afterCommandReady, afterTpmGo, afterRetry, afterSts, afterByte, byActive, answerOf}
-use Rattle.claims.specs.Answers.{isTpmGo, mayGo, goes, Trail, trail, trailStep, trailFrom, endsRun, isPort, fits, AnswersNot, Undisturbed, Owned, OwnedClaim, hasMail}
+use Rattle.claims.specs.Mailbox.{Mailbox, idle, ready, receiving, executing, answering, Mail, mail, sizeOf, isTpmGo, afterFetch, isActive, isStsCommand, isFifo, mailStep, mailFrom, phaseOf, badSizeAnswer, moreExpected, afterCommandReady, afterTpmGo, afterRetry, afterSts, afterByte, byActive, answerOf}
+use Rattle.reg_sts_write.specs.declared.sts.StsCommand.{StsCommand}
+use Rattle.claims.proofs.Orders as orders
+use Rattle.claims.proofs.Orders.{StsCase, sts-case}
+use Rattle.claims.specs.Answers.{mayGo, goes, Trail, trail, trailStep, trailFrom, endsRun, isPort, fits, AnswersNot, Undisturbed, Owned, OwnedClaim, hasMail}
 use Rattle.claims.proofs.CallCases.{CallCase, same, powers, resets, looks, reads, writes, responds, call-case}
 use Rattle.claims.proofs.Padded.{byte-padded}
 use Rattle.claims.proofs.Mailbox.{active-same, write-length, Kept, one-kept, all-kept, first-kept}
@@ -232,18 +234,18 @@ module _ {a : List ℕ} {j : ℕ} where
     byte-comes (answering x i) e = inl (j, e)
 
     sts-comes : (byActive m o && isStsCommand o) ≡ true → afterSts c v q .box ≡ answering a j → Comes c m (q .box) (write o v) accepted a
-    sts-comes g e = by (eqb (bit 6 v + bit 5 v + bit 1 v) 1) refl (eqb (bit 6 v) 1) refl (eqb (bit 5 v) 1) refl e
+    sts-comes g e = by (sts-case v) refl e
       where
         goes-if : isTpmGo v ≡ true → (b : Mailbox) → mayGo c b ≡ true → goes c m b o v ≡ true
         goes-if i b f = rw (g, i, f) refl
 
-        by : (t₁ : Bool) → eqb (bit 6 v + bit 5 v + bit 1 v) 1 ≡ t₁ → (t₂ : Bool) → eqb (bit 6 v) 1 ≡ t₂ → (t₃ : Bool) → eqb (bit 5 v) 1 ≡ t₃
-            → cond t₁ (cond t₂ (mail (afterCommandReady (q .box)) (q .run)) (cond t₃ (afterTpmGo c (q .box) (q .run)) (mail (afterRetry (q .box)) (q .run)))) q .box ≡ answering a j
+        by : {r g t : Bool} {k : StsCommand} → StsCase r g t k → isTpmGo v ≡ g
+            → cond r (mail (afterCommandReady (q .box)) (q .run)) (cond g (afterTpmGo c (q .box) (q .run)) (cond t (mail (afterRetry (q .box)) (q .run)) q)) .box ≡ answering a j
             → Comes c m (q .box) (write o v) accepted a
-        by true i true k t₃ l e = ready-comes (q .box) e
-        by true i false k true l e = go-comes (goes-if (rw (i, k, l) refl)) (q .box) (q .run) e
-        by true i false k false l e = retry-comes (q .box) e
-        by false i t₂ k t₃ l e = inl (j, e)
+        by orders.readies i e = ready-comes (q .box) e
+        by orders.goes i e = go-comes (goes-if i) (q .box) (q .run) e
+        by orders.retries i e = retry-comes (q .box) e
+        by orders.nothing i e = inl (j, e)
 
     written-comes : (x y z : Bool) → (byActive m o && isStsCommand o) ≡ y → cond x (mail idle (q .run)) (cond y (afterSts c v q) (cond z (mail (afterByte c v (q .box)) (q .run)) q)) .box ≡ answering a j
         → Comes c m (q .box) (write o v) accepted a

@@ -2,12 +2,12 @@
 use mathlib.Core.Path.{_≡_, refl, sym, ap, _∙_}
 use mathlib.Core.Bool.{Bool, true, false, cond, _&&_, _||_, true≢false}
 use mathlib.Core.List.{List, [], _∷_, _++_}
-use Prim.Native.Nat.{ℕ, _+_, _%_, _^_, _≤_, _<_}
+use Prim.Native.Nat.{ℕ, zero, suc, _+_, _%_, _^_, _≤_, _<_}
 use native.Mathlib.Omega.{arith}
 use lib.ListN.{length, length-append}
 use lib.Dec.{eqb, leb, ltb}
 use borrow.Author.Tests.{ltb-true, ltb-false, leb-true}
-use Rattle.bits.specs.Bits.{bit}
+use Rattle.bits.specs.Bits.{bit, isSet}
 use Rattle.record.specs.declared.Phase.{Phase}
 use Rattle.record.specs.declared.Phase.the-variants.{Idle, Reception, Execution}
 use Rattle.pcr.proofs.MaskTable.{neither}
@@ -18,9 +18,50 @@ use Rattle.reg_sts_read.specs.Size.{declaredSize}
 use Rattle.reg_sts_write.specs.Completion.{withoutCause, ignored, enterCompletion, badSize}
 use Rattle.reg_sts_write.specs.Sts.{stsCommand, commandReady, nextRun, tpmGoAfter, tpmGo, responseRetry, commandedBy, storeAfter, writeDataFifo}
 use Rattle.reg_sts_write.specs.declared.Commanded.{Commanded}
+use Rattle.reg_sts_write.specs.declared.sts.StsCommand.{StsCommand}
 use Rattle.reg_sts_write.specs.declared.sts.StsCommand.the-variants.{Nothing, CommandReady, TpmGo, ResponseRetry}
-use Rattle.claims.specs.Mailbox.{Mailbox, idle, ready, receiving, executing, answering, Mail, mail, sizeOf, moreExpected, afterCommandReady, badSizeAnswer, goAhead, afterTpmGo, afterRetry, afterSts, afterByte, phaseOf, commandOf, answerOf, padded}
+use Rattle.claims.specs.Mailbox.{Mailbox, idle, ready, receiving, executing, answering, Mail, mail, sizeOf, moreExpected, afterCommandReady, badSizeAnswer, goAhead, afterTpmGo, afterRetry, isCommandReady, isTpmGo, isResponseRetry, afterSts, afterByte, phaseOf, commandOf, answerOf, padded}
 use Rattle.claims.proofs.Padded.{length-padded, clear-padded, put-padded, set-padded, size-padded}
+
+-- ---- which command bit a byte is: 40h, go, retry, and the front's word for it
+
+pub data StsCase : Bool → Bool → Bool → StsCommand → Type 0 where
+  readies : StsCase true false false CommandReady
+  goes : StsCase false true false TpmGo
+  retries : StsCase false false true ResponseRetry
+  nothing : StsCase false false false Nothing
+
+abbrev bitOf : Bool → ℕ
+bitOf true = 1
+bitOf false = 0
+
+bit-is : (n : ℕ) → n < 2 → n ≡ bitOf (eqb n 1)
+bit-is zero l = refl
+bit-is (suc zero) l = refl
+bit-is (suc (suc n)) l = absurd (omega (arith, l))
+
+-- bits 6, 5 and 1
+abbrev Decoded : ℕ → ℕ → ℕ → Type 0
+Decoded a b c =
+    StsCase (eqb (a + b + c) 1 && eqb a 1) (eqb (a + b + c) 1 && eqb b 1) (eqb (a + b + c) 1 && eqb c 1)
+    (cond (eqb (a + b + c) 1) (cond (eqb a 1) CommandReady (cond (eqb b 1) TpmGo ResponseRetry)) Nothing)
+
+decoded : (p q r : Bool) → Decoded (bitOf p) (bitOf q) (bitOf r)
+decoded true true true = nothing
+decoded true true false = nothing
+decoded true false true = nothing
+decoded true false false = readies
+decoded false true true = nothing
+decoded false true false = goes
+decoded false false true = retries
+decoded false false false = nothing
+
+pub sts-case : (v : ℕ) → StsCase (isCommandReady v) (isTpmGo v) (isResponseRetry v) (stsCommand v)
+unfolding stsCommand
+sts-case v = by (bit 6 v) (bit 5 v) (bit 1 v) (isSet 6 v) (isSet 5 v) (isSet 1 v) (bit-is (bit 6 v) (omega arith)) (bit-is (bit 5 v) (omega arith)) (bit-is (bit 1 v) (omega arith))
+  where
+    by : (a b c : ℕ) (p q r : Bool) → a ≡ bitOf p → b ≡ bitOf q → c ≡ bitOf r → Decoded a b c
+    by a b c p q r i j k = rw (i, j, k) (decoded p q r)
 
 -- ---- what fits FIFOs of c bytes
 
@@ -139,16 +180,14 @@ module _ (c : ℕ) (l : 1024 ≤ c) where
 
   -- a byte at STS
   pub order-leaves : (b : Mailbox) (n v : ℕ) → Fits c b → Leaves (afterSts c v (mail b n)) (commandedBy (stsCommand v) (phaseOf b) n (sizeIn b) (lengthIn b)) v b
-  unfolding stsCommand
-  order-leaves b n v f = by (eqb (bit 6 v + bit 5 v + bit 1 v) 1) (eqb (bit 6 v) 1) (eqb (bit 5 v) 1)
+  order-leaves b n v f = by (sts-case v)
     where
-      by : (t₁ t₂ t₃ : Bool)
-          → Leaves (cond t₁ (cond t₂ (mail (afterCommandReady b) n) (cond t₃ (afterTpmGo c b n) (mail (afterRetry b) n))) (mail b n))
-          (commandedBy (cond t₁ (cond t₂ CommandReady (cond t₃ TpmGo ResponseRetry)) Nothing) (phaseOf b) n (sizeIn b) (lengthIn b)) v b
-      by true true t₃ = ready-leaves b n v f
-      by true false true = go-leaves b n v f
-      by true false false = retry-leaves b n v f
-      by false t₂ t₃ = keeps b n v f
+      by : {r g t : Bool} {k : StsCommand} → StsCase r g t k
+          → Leaves (cond r (mail (afterCommandReady b) n) (cond g (afterTpmGo c b n) (cond t (mail (afterRetry b) n) (mail b n)))) (commandedBy k (phaseOf b) n (sizeIn b) (lengthIn b)) v b
+      by readies = ready-leaves b n v f
+      by goes = go-leaves b n v f
+      by retries = retry-leaves b n v f
+      by nothing = keeps b n v f
 
   storing-leaves : (bs : List ℕ) (n v s k : ℕ) → s ≡ sizeOf bs → k ≡ c → Fits c (receiving bs)
       → Leaves (mail (afterByte c v (receiving bs)) n) (storeAfter (length bs) n s k) v (receiving bs)

@@ -55,6 +55,7 @@ use Rattle.call_bus.proofs.Cases.{owner, ReadCase, read-case, Writes, starts, e
 use Rattle.claims.specs.Calls.{Call, powerOn, reset, read, write, respond, pcrValue, interruptLine, mayReset, mayExtend, window, State, state, refusalOf, left, after, heard}
 use Rattle.claims.specs.StaleAnswers.{running}
 use Rattle.claims.specs.Launch.{LaunchClaim}
+use Rattle.claims.specs.Events.{entryOf}
 use Rattle.claims.specs.Progress.{overlong, refusalIn, Works, isLent, poweredBy, lastPowered, Halts, ProgressClaim}
 use Rattle.claims.specs.Mailbox.{Mailbox, idle, ready, receiving, executing, answering, Mail, mail, phaseOf}
 use Rattle.claims.proofs.Orders.{Fits}
@@ -516,12 +517,12 @@ module _ (s : State) (e : lengthsAllowed (lengthsOf (s .writeFifo) (s .readFifo)
   refuses k t z = let q : _≡_ {A = ℕ} 2 0 = sym (refused-2 k t) ∙ z in omega arith
 
   -- and leaves all but what a power-on gives
-  halted-left : (k : Call) → left k s ≡ state (poweredBy k (s .device)) (s .writeFifo) (s .readFifo)
+  halted-left : (k : Call) → left k s ≡ state (poweredBy (entryOf k (refusalOf k s)) (s .device)) (s .writeFifo) (s .readFifo)
   halted-left (powerOn x i) = refusals-change-nothing .powerOn x i s (refuses (powerOn x i) refl)
-  halted-left reset = refusals-change-nothing .unchanged reset s refl (refuses reset refl)
-  halted-left (read o) = refusals-change-nothing .unchanged (read o) s refl (refuses (read o) refl)
-  halted-left (write o v) = refusals-change-nothing .unchanged (write o v) s refl (refuses (write o v) refl)
-  halted-left (respond run a) = refusals-change-nothing .unchanged (respond run a) s refl (refuses (respond run a) refl)
+  halted-left reset = rw (refused-2 reset refl) (refusals-change-nothing .unchanged reset s refl (refuses reset refl))
+  halted-left (read o) = rw (refused-2 (read o) refl) (refusals-change-nothing .unchanged (read o) s refl (refuses (read o) refl))
+  halted-left (write o v) = rw (refused-2 (write o v) refl) (refusals-change-nothing .unchanged (write o v) s refl (refuses (write o v) refl))
+  halted-left (respond run a) = rw (refused-2 (respond run a) refl) (refusals-change-nothing .unchanged (respond run a) s refl (refuses (respond run a) refl))
   halted-left (pcrValue i) = refl
   halted-left interruptLine = refl
   halted-left (mayReset i x) = refl
@@ -531,7 +532,7 @@ module _ (s : State) (e : lengthsAllowed (lengthsOf (s .writeFifo) (s .readFifo)
 all-halted : (d : Device) (w r : List ℕ) → lengthsAllowed (lengthsOf w r) ≡ false → (cs : List Call) → after (state d w r) cs ≡ state (lastPowered d (heard (state d w r) cs)) w r
 unfolding after heard lastPowered
 all-halted d w r e [] = refl
-all-halted d w r e (k ∷ ks) = rw (halted-left (state d w r) e k) (all-halted (poweredBy k d) w r e ks)
+all-halted d w r e (k ∷ ks) = rw (halted-left (state d w r) e k) (all-halted (poweredBy (entryOf k (refusalOf k (state d w r))) d) w r e ks)
 
 refused-lengths : (w r : List ℕ) → lengthsAllowed (lengthsOf w r) ≡ false → (leb 1024 (length w) && leb (length w) 4096 && eqb (length w) (length r)) ≡ false
 unfolding lengthsAllowed

@@ -7,7 +7,6 @@ use native.Mathlib.Omega.{arith}
 use lib.ListN.{length, getD, set, replicate, length-set}
 use lib.Dec.{eqb, leb, ltb}
 use borrow.Author.Tests.{eqb-true, eqb-false, ne-eqb}
-use Rattle.bits.specs.Bits.{bit}
 use Rattle.reg_layout.specs.Offsets.{inFour, pageOf, placeOf, lastOffset, access, intEnable, intStatus, sts, dataFifo, hashStart, hashEnd}
 use Rattle.reg_layout.proofs.Within.{within-then}
 use Rattle.reg_map.proofs.MapLaws.{Inert}
@@ -41,13 +40,14 @@ use Rattle.call_power.specs.Power.{resetDevice}
 use Rattle.call_power.proofs.Cases as power
 use Rattle.call_power.proofs.Cases.{PowerCase, power-case}
 use Rattle.reg_sts_write.specs.declared.Commanded.{Commanded}
-use Rattle.reg_sts_write.specs.declared.sts.StsCommand.the-variants.{Nothing as StsNothing, CommandReady, TpmGo, ResponseRetry}
-use Rattle.claims.specs.Mailbox.{Mailbox, idle, ready, receiving, executing, answering, Mail, mail, sizeOf, moreExpected, byActive, isStsCommand, phaseOf, commandOf, padded}
-use Rattle.claims.specs.Answers.{isCommandReady, isTpmGo, mayGo}
+use Rattle.reg_sts_write.specs.declared.sts.StsCommand.{StsCommand}
+use Rattle.claims.specs.Mailbox.{Mailbox, idle, ready, receiving, executing, answering, Mail, mail, sizeOf, moreExpected, isCommandReady, isTpmGo, byActive, isStsCommand, phaseOf, commandOf, padded}
+use Rattle.claims.specs.Answers.{mayGo}
 use Rattle.claims.proofs.Padded.{length-padded, size-padded}
 use Rattle.claims.specs.Calls.{Call, powerOn, State, refusalOf, left, after, heard}
 use Rattle.claims.specs.Events.{written, entryOf}
-use Rattle.claims.proofs.Orders.{Fits}
+use Rattle.claims.proofs.Orders as orders
+use Rattle.claims.proofs.Orders.{Fits, StsCase, sts-case}
 use Rattle.claims.proofs.Access.{someone, change-same}
 use Rattle.claims.proofs.Progress.{or-true}
 use Rattle.claims.proofs.Launch.{counts-same}
@@ -175,15 +175,13 @@ module _ (c : ℕ) (l : 1024 ≤ c) where
 
   order-raises : (b : Mailbox) (n v : ℕ) → Fits c b
       → commandedBy (stsCommand v) (phaseOf b) n (sizeIn b) (lengthIn b) .causes ≡ causes (isCommandReady v && isIdle b) (isTpmGo v && mayGo c b && not (sizeRuns c b))
-  unfolding stsCommand
-  order-raises b n v f = by (eqb (bit 6 v + bit 5 v + bit 1 v) 1) (eqb (bit 6 v) 1) (eqb (bit 5 v) 1)
+  order-raises b n v f = by (sts-case v)
     where
-      by : (t₁ t₂ t₃ : Bool) → commandedBy (cond t₁ (cond t₂ CommandReady (cond t₃ TpmGo ResponseRetry)) StsNothing) (phaseOf b) n (sizeIn b) (lengthIn b) .causes
-          ≡ causes (t₁ && t₂ && isIdle b) (t₁ && (not t₂ && t₃) && mayGo c b && not (sizeRuns c b))
-      by true true t₃ = ready-raises b n
-      by true false true = go-raises b n f
-      by true false false = retry-raises b n
-      by false t₂ t₃ = refl
+      by : {r g t : Bool} {k : StsCommand} → StsCase r g t k → commandedBy k (phaseOf b) n (sizeIn b) (lengthIn b) .causes ≡ causes (r && isIdle b) (g && mayGo c b && not (sizeRuns c b))
+      by orders.readies = ready-raises b n
+      by orders.goes = go-raises b n f
+      by orders.retries = retry-raises b n
+      by orders.nothing = refl
 
   store-raises : (b : Mailbox) (n : ℕ) → writeDataFifo (phaseOf b) n (sizeIn b) (lengthIn b) .causes ≡ noCause
   store-raises idle n = refl

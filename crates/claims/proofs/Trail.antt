@@ -9,15 +9,16 @@ use lib.ListN.{length, take, length-append}
 use lib.Seq.{take-length, take-append-le, getD-take}
 use lib.Dec.{eqb, leb, ltb}
 use borrow.Author.Tests.{eqb-true, ltb-true, ltb-false}
-use Rattle.bits.specs.Bits.{bit}
 use Rattle.record_shape.proofs.Clauses.{both-true}
 use Rattle.arbiter_model.specs.Model.{Model, Holder, free, held, Event, restart, hashStart, hashEnd, access, nothing, AccessBit, requestUse, activeLocality, seize, beenSeized, withdraw, wait, accessStep, writeEvent, ignoresPage, step}
 use Rattle.arbiter_model.specs.Waits.{relinquishes}
 use Rattle.claims.specs.Launch.{startCounts}
-use Rattle.claims.specs.Mailbox.{Mailbox, idle, ready, receiving, executing, answering, Mail, mail, sizeOf, moreExpected, badSizeAnswer, afterCommandReady, afterTpmGo, afterRetry, afterSts, afterByte, afterFetch, isActive, byActive, isStsCommand, isFifo, seizes, aborts, mailWritten}
-use Rattle.claims.proofs.Orders.{Fits, whole}
+use Rattle.claims.specs.Mailbox.{Mailbox, idle, ready, receiving, executing, answering, Mail, mail, sizeOf, moreExpected, badSizeAnswer, afterCommandReady, afterTpmGo, afterRetry, isCommandReady, isTpmGo, afterSts, afterByte, afterFetch, isActive, byActive, isStsCommand, isFifo, seizes, aborts, mailWritten}
+use Rattle.reg_sts_write.specs.declared.sts.StsCommand.{StsCommand}
+use Rattle.claims.proofs.Orders as orders
+use Rattle.claims.proofs.Orders.{Fits, whole, StsCase, sts-case}
 use Rattle.pcr.proofs.MaskTable.{neither}
-use Rattle.claims.specs.Answers.{isCommandReady, isTpmGo, mayGo, readies, Trail, trail, trailWritten}
+use Rattle.claims.specs.Answers.{mayGo, readies, Trail, trail, trailWritten}
 
 -- ---- who is active stays so, unless the command is aborted
 
@@ -200,15 +201,15 @@ module _ (c : ℕ) (m m′ : Model) (q : Mail) (t : Trail) (f : Fits c (q .box))
   -- a byte v at STS of page x, which is active
   order-told : (x v : ℕ) → m .active ≡ held x
       → Told c m′ (afterSts c v q .box) (cond (isCommandReady v) (trail [] (t .starter)) (cond (isTpmGo v && mayGo c (q .box)) (trail (t .sent) x) t))
-  order-told x v i = by (eqb (bit 6 v + bit 5 v + bit 1 v) 1) (eqb (bit 6 v) 1) (eqb (bit 5 v) 1)
+  order-told x v i = by (sts-case v)
     where
-      by : (t₁ t₂ t₃ : Bool)
-          → Told c m′ (cond t₁ (cond t₂ (mail (afterCommandReady (q .box)) (q .run)) (cond t₃ (afterTpmGo c (q .box) (q .run)) (mail (afterRetry (q .box)) (q .run)))) q .box)
-          (cond (t₁ && t₂) (trail [] (t .starter)) (cond (t₁ && (not t₂ && t₃) && mayGo c (q .box)) (trail (t .sent) x) t))
-      by true true t₃ = ready-told (q .box)
-      by true false true = go-told x i (q .box) f k
-      by true false false = retry-told (q .box) k
-      by false t₂ t₃ = still c m m′ (q .box) t stays k
+      by : {r g u : Bool} {k : StsCommand} → StsCase r g u k
+          → Told c m′ (cond r (mail (afterCommandReady (q .box)) (q .run)) (cond g (afterTpmGo c (q .box) (q .run)) (cond u (mail (afterRetry (q .box)) (q .run)) q)) .box)
+          (cond r (trail [] (t .starter)) (cond (g && mayGo c (q .box)) (trail (t .sent) x) t))
+      by orders.readies = ready-told (q .box)
+      by orders.goes = go-told x i (q .box) f k
+      by orders.retries = retry-told (q .box) k
+      by orders.nothing = still c m m′ (q .box) t stays k
 
 pub written-told : (c : ℕ) (m : Model) (q : Mail) (t : Trail) (o v : ℕ) → Fits c (q .box) → Told c m (q .box) t
     → Told c (step m (writeEvent o v)) (mailWritten c m q o v .box) (trailWritten c m (q .box) t o v)
@@ -243,13 +244,14 @@ goes-on c m bs n o v e = by (byActive m o && isStsCommand o) refl (byActive m o 
     k = neither (aborts m (writeEvent o v)) (readies m o v) e
 
     bits : isCommandReady v ≡ false → afterSts c v q ≡ q
-    bits r = on (eqb (bit 6 v + bit 5 v + bit 1 v) 1) (eqb (bit 6 v) 1) (eqb (bit 5 v) 1) r
+    bits r = on (sts-case v) r
       where
-        on : (t₁ t₂ t₃ : Bool) → (t₁ && t₂) ≡ false → cond t₁ (cond t₂ (mail (afterCommandReady (executing bs)) n) (cond t₃ (afterTpmGo c (executing bs) n) (mail (afterRetry (executing bs)) n))) q ≡ q
-        on true true t₃ r = absurd (true≢false r)
-        on true false true r = refl
-        on true false false r = refl
-        on false t₂ t₃ r = refl
+        on : {r g u : Bool} {k : StsCommand} → StsCase r g u k → r ≡ false
+            → cond r (mail (afterCommandReady (executing bs)) n) (cond g (afterTpmGo c (executing bs) n) (cond u (mail (afterRetry (executing bs)) n) q)) ≡ q
+        on orders.readies e = absurd (true≢false e)
+        on orders.goes e = refl
+        on orders.retries e = refl
+        on orders.nothing e = refl
 
     by : (s : Bool) → (byActive m o && isStsCommand o) ≡ s → (z : Bool) → cond (aborts m (writeEvent o v)) (mail idle n) (cond s (afterSts c v q) (cond z (mail (afterByte c v (executing bs)) n) q)) ≡ q
     by true i z = rw (k .0) (bits (rw i at (k .1)))

@@ -1,29 +1,21 @@
 -- Whose command runs and whose answer is read, over lists of calls: what follows from the mailbox, in plain words. An answer reaches only the
 -- locality that started its run. Run numbers start again at a power-on and after 2 ^ 32 runs: an answer to an older run whose number is in use again
 -- is taken for the new run's. Assumes nothing.
-use Prim.Native.Nat.{ℕ, _+_, _/_, _%_, _≤_, _<_}
+use Prim.Native.Nat.{ℕ, _/_, _%_, _≤_, _<_}
 use mathlib.Core.Path.{_≡_}
 use mathlib.Core.Bool.{Bool, true, false, cond, not, _&&_, _||_}
 use mathlib.Core.List.{List, [], _∷_, _++_}
 use mathlib.Core.Logic.{_⊎_}
 use lib.ListN.{length, getD, take}
 use lib.Dec.{eqb, leb}
-use Rattle.bits.specs.Bits.{bit}
 use Rattle.reg_layout.specs.Offsets.{within}
 use Rattle.refusal.specs.Refusal.{accepted}
 use Rattle.arbiter_model.specs.Model.{Model, held, writeEvent, step, fresh}
 use Rattle.claims.specs.Calls.{Call, read, write, respond, window, State, nothing, byte, bytes, Answer, gives, called, refusalOf, left, after, StartsAccepted, OverLists}
 use Rattle.claims.specs.Events.{Entry, poweredOn, restarted, written, readAt, answered, none, entryOf, eventFor, happens, modelAfter}
-use Rattle.claims.specs.Mailbox.{Mailbox, idle, ready, receiving, executing, answering, Mail, mail, sizeOf, moreExpected, badSizeAnswer, isActive, byActive, isStsCommand, isFifo, aborts, mailStep, mailAfter}
+use Rattle.claims.specs.Mailbox.{Mailbox, idle, ready, receiving, executing, answering, Mail, mail, sizeOf, moreExpected, badSizeAnswer, isCommandReady, isTpmGo, isActive, byActive, isStsCommand, isFifo, aborts, mailStep, mailAfter}
 
 -- ---- two things more that a list of calls tells
-
--- "with exactly one of these bits set": 40h, and 20h
-abbrev pub isCommandReady : ℕ → Bool
-isCommandReady v = eqb (bit 6 v + bit 5 v + bit 1 v) 1 && eqb (bit 6 v) 1
-
-abbrev pub isTpmGo : ℕ → Bool
-isTpmGo v = eqb (bit 6 v + bit 5 v + bit 1 v) 1 && (not (eqb (bit 6 v) 1) && eqb (bit 5 v) 1)
 
 -- may a command go: it is received, and no more is expected
 abbrev pub mayGo : ℕ → Mailbox → Bool

@@ -7,7 +7,7 @@ use mathlib.Core.Bool.{Bool, true, false, cond, not, _&&_, _||_}
 use mathlib.Core.List.{List, [], _∷_, _++_}
 use lib.ListN.{length, getD, replicate}
 use lib.Dec.{eqb, leb, ltb}
-use Rattle.bits.specs.Bits.{bit}
+use Rattle.bits.specs.Bits.{bit, isSet}
 use Rattle.reg_layout.specs.Offsets.{within}
 use Rattle.record.specs.declared.Phase.{Phase}
 use Rattle.record.specs.declared.Phase.the-variants.{Idle, Ready, Reception, Execution, Completion}
@@ -81,14 +81,26 @@ afterRetry (receiving bs) = receiving bs
 afterRetry (executing bs) = executing bs
 afterRetry (answering a k) = answering a 0
 
--- a byte v at 0018 of the active locality's page: "with exactly one of these bits set, others not counted"
+-- a byte v at 0018: "with exactly one of these bits set, others not counted"
+abbrev pub oneCounts : ℕ → Bool
+oneCounts v = eqb (bit 6 v + bit 5 v + bit 1 v) 1
+
+abbrev pub isCommandReady : ℕ → Bool
+isCommandReady v = oneCounts v && isSet 6 v
+
+abbrev pub isTpmGo : ℕ → Bool
+isTpmGo v = oneCounts v && isSet 5 v
+
+abbrev pub isResponseRetry : ℕ → Bool
+isResponseRetry v = oneCounts v && isSet 1 v
+
+-- the same of the active locality's page
 abbrev pub afterSts : ℕ → ℕ → Mail → Mail
 afterSts c v p =
-    cond (eqb (bit 6 v + bit 5 v + bit 1 v) 1)
-    (cond (eqb (bit 6 v) 1) (mail (afterCommandReady (p .box)) (p .run))
-    (cond (eqb (bit 5 v) 1) (afterTpmGo c (p .box) (p .run))
-    (mail (afterRetry (p .box)) (p .run))))
-    p
+    cond (isCommandReady v) (mail (afterCommandReady (p .box)) (p .run))
+    (cond (isTpmGo v) (afterTpmGo c (p .box) (p .run))
+    (cond (isResponseRetry v) (mail (afterRetry (p .box)) (p .run))
+    p))
 
 -- "A FIFO write in Ready or in Reception with more expected stores the byte; else it is ignored."
 abbrev pub afterByte : ℕ → ℕ → Mailbox → Mailbox

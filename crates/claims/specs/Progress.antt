@@ -11,6 +11,7 @@ use Rattle.record.specs.Record.{freshDevice}
 use Rattle.record.specs.declared.Device.{Device}
 use Rattle.record_shape.specs.Shape.{viewOf, inShape}
 use Rattle.claims.specs.Calls.{Call, powerOn, reset, read, write, respond, pcrValue, interruptLine, mayReset, mayExtend, window, State, Answer, refusalOf, StartsAccepted, OverLists}
+use Rattle.claims.specs.Events.{Entry, poweredOn, restarted, written, readAt, answered, none, entryOf}
 use Rattle.claims.specs.StaleAnswers.{running}
 
 -- ---- after an accepted power-on
@@ -61,21 +62,17 @@ isLent (mayExtend i x) = false
 isLent window = true
 
 -- the record that the last power-on of a list gave, d if there is none
-abbrev pub poweredBy : Call → Device → Device
-poweredBy (powerOn established identity) d = freshDevice established identity 0
-poweredBy reset d = d
-poweredBy (read o) d = d
-poweredBy (write o v) d = d
-poweredBy (respond run a) d = d
-poweredBy (pcrValue i) d = d
-poweredBy interruptLine d = d
-poweredBy (mayReset i x) d = d
-poweredBy (mayExtend i x) d = d
-poweredBy window d = d
+abbrev pub poweredBy : Entry → Device → Device
+poweredBy (poweredOn established identity) d = freshDevice established identity 0
+poweredBy restarted d = d
+poweredBy (written o v) d = d
+poweredBy (readAt o) d = d
+poweredBy (answered a) d = d
+poweredBy none d = d
 
 unfoldable pub lastPowered : Device → List (Call × Answer) → Device
 lastPowered d [] = d
-lastPowered d (c ∷ cs) = lastPowered (poweredBy (c .0) d) cs
+lastPowered d (c ∷ cs) = lastPowered (poweredBy (entryOf (c .0) (c .1 .refusal)) d) cs
 
 -- s₀ was handed to the power-on; h is what was heard, s what is left
 pub record Halts (s₀ : State) (h : List (Call × Answer)) (s : State) : Type 0 where
