@@ -1,4 +1,5 @@
 // The calls that a line of the sheet names.
+use arbiter::Locality;
 use conformance_lines::line::Step;
 use conformance_lines::line::answer;
 use conformance_lines::line::free_bytes;
@@ -7,7 +8,9 @@ use conformance_lines::line::place;
 use conformance_lines::line::times;
 use conformance_lines::results::show_answer;
 use conformance_lines::results::show_fill;
+use conformance_lines::results::show_line;
 use conformance_lines::results::show_pcr;
+use conformance_lines::results::show_permission;
 use conformance_lines::results::show_power_on;
 use conformance_lines::results::show_read;
 use conformance_lines::results::show_reset;
@@ -166,11 +169,30 @@ pub fn run(device: Device, s: Step) -> Device {
     device
 }
 
-// The PCR of the offset's low byte.
+// The interrupt line, asserted where the line's byte is 1.
+pub fn line(device: Device, s: Step) -> Device {
+    show_line(s, tis::interrupt_line(device));
+    device
+}
+
+// The PCR of the offset's low byte; the refusal number expected is the line's byte.
 pub fn pcr(device: Device, s: Step) -> Device {
     let o = tis::pcr_value(device, PcrIndex(s.low));
     let value = o.value;
     show_pcr(s, sha1_text::hex(value), o.refusal);
+    device
+}
+
+// May the locality of the offset's high byte reset the PCR of its low byte, and may it extend it.
+pub fn permission(device: Device, s: Step) -> Device {
+    let reset = tis::may_reset(PcrIndex(s.low), Locality(s.high));
+    let extend = tis::may_extend(PcrIndex(s.low), Locality(s.high));
+    show_permission(
+        s,
+        reset.allowed,
+        extend.allowed,
+        reset.refusal | extend.refusal,
+    );
     device
 }
 

@@ -1,6 +1,8 @@
 // Plays the lines of the sheet: each is a call of the register front and a line that shows what it gave.
 use crate::calls::fill;
+use crate::calls::line;
 use crate::calls::pcr;
+use crate::calls::permission;
 use crate::calls::power_on;
 use crate::calls::read;
 use crate::calls::reset;
@@ -29,7 +31,9 @@ fn take(device: Device, w: &mut [u8], r: &mut [u8], s: Step) -> Device {
         b'g' => respond_free(device, w, r, s),
         b's' => window(device, w, r, s),
         b'n' => run(device, s),
+        b'i' => line(device, s),
         b'v' => pcr(device, s),
+        b'q' => permission(device, s),
         b' ' => device,
         _ => unknown(device, s),
     }

@@ -8,6 +8,7 @@ use Rattle.arbiter.specs.State.{locality, withActive, freshArbiter}
 use Rattle.arbiter.specs.Rules.{accessCommand, request, release, seize, clearSeized, writeAccess, handover}
 use Rattle.arbiter.specs.declared.Owner.the-variants.{Held}
 use Rattle.pcr.specs.Bank as bank
+use Rattle.pcr.specs.Permission.{permissionTable, mayReset, mayExtend, permission}
 use Rattle.record.specs.Record.{noCauses, closedLaunch, freshDevice, withParts}
 use Rattle.record.specs.declared.Causes.{Causes}
 use Rattle.record.specs.declared.Device.{Device}
@@ -16,7 +17,7 @@ use Rattle.record.specs.declared.Phase.the-variants.{Reception, Execution, Comp
 use Rattle.record_shape.specs.Shape.{lengthsAllowed, inShape}
 use Rattle.reg_map.specs.Map.{registerAt}
 use Rattle.reg_access.specs.Access.{accessBits}
-use Rattle.reg_interrupts.specs.Interrupts.{enableByte, statusByte, writeEnable, writeStatus}
+use Rattle.reg_interrupts.specs.Interrupts.{enableByte, statusByte, capabilityByte, lineAsserted, writeEnable, writeStatus}
 use Rattle.reg_sts_read.specs.Size.{declaredSize}
 use Rattle.reg_sts_read.specs.Status.{stsLow, stsByte}
 use Rattle.reg_sts_write.specs.Sts.{stsCommand, commandReadyCause, writeSts}
@@ -25,43 +26,41 @@ use Rattle.bus_resolve.specs.Resolve.{resolve}
 use Rattle.bus_write.specs.Effect.{applyChange, applyCommand}
 use Rattle.bus_write.specs.Writing.{registerWrite, writeEffect}
 use Rattle.launch.specs.Launch.{launchAfter, pcrsAfter}
-use Rattle.call_admission.specs.Refusals.{busRefusal, lentRefusal, answerRefusal}
+use Rattle.call_admission.specs.Refusals.{busRefusal, lentRefusal, answerRefusal, pcrRefusal}
 use Rattle.call_power.specs.Power as power
 use Rattle.call_power.specs.Power.{powerOn}
 use Rattle.call_respond.specs.Respond as engine
 use Rattle.call_respond.specs.Respond.{answerCycle, acceptedAnswer}
-use Rattle.call_query.specs.Query.{windowSpan}
+use Rattle.call_query.specs.Query.{windowSpan, pcrValue}
 use Rattle.call_bus.specs.Bus as bus
 use Rattle.call_bus.specs.Bus.{read, readCycle, acceptedRead, writeCycle, acceptedWrite}
 use Rattle.claims.specs.Calls as call
 use Rattle.claims.specs.Calls.{State, state, left}
-use Rattle.conformance_claim.specs.Sheet.{Line, write, ignored, reads, refused, run, answer, reset, shows, Check, fresh, afterRead, afterWrite, checks, gots, wants, Holds, head, filler, send, receive, badSize, complete, runs, p1, p2, p3, p4, p5, p6, p7, p8, p9, p10, p10′, p11, p12, seizures, marks, established, interrupts, onlookers, engineAnswers, allWait, highBytes, Each, SheetHolds}
+use Rattle.conformance_claim.specs.Sheet.{Line, gets, leaves, run, write, ignored, reads, answer, shows, Check, fresh, checks, gots, wants, Holds, head, filler, send, receive, badSize, complete, runs, burst, p1, p2, p3, p4, p5, p6, p7, p8, p9, p10, p10′, p11, p12, seizures, marks, established, interrupts, onlookers, engineAnswers, allWait, highBytes, registers, bursts, questions, Each, SheetHolds}
 
 -- ---- lines played in two parts
 
 -- what the lines leave
 unfoldable played : State → List Line → State
 played s [] = s
-played s (write o v ∷ l) = played (afterWrite s o v) l
-played s (ignored o v ∷ l) = played (afterWrite s o v) l
-played s (reads o v ∷ l) = played (afterRead s o) l
-played s (refused o n ∷ l) = played (afterWrite (afterRead s o) o 0x00) l
-played s (run n ∷ l) = played s l
+played s (write o v ∷ l) = played (left (call.write o v) s) l
+played s (ignored o v ∷ l) = played (left (call.write o v) s) l
+played s (reads o v ∷ l) = played (left (call.read o) s) l
 played s (answer n k a ∷ l) = played (left (call.respond k a) s) l
-played s (reset ∷ l) = played (left call.reset s) l
-played s (shows b ∷ l) = played s l
+played s (gets c n v ∷ l) = played (left c s) l
+played s (leaves c n v ∷ l) = played (left c s) l
+played s (run n ∷ l) = played s l
 
 checks-on : (s : State) (l m : List Line) → checks s (l ++ m) ≡ checks s l ++ checks (played s l) m
 unfolding checks played
 checks-on s [] m = refl
-checks-on s (write o v ∷ l) m = rw (checks-on (afterWrite s o v) l m) refl
-checks-on s (ignored o v ∷ l) m = rw (checks-on (afterWrite s o v) l m) refl
-checks-on s (reads o v ∷ l) m = rw (checks-on (afterRead s o) l m) refl
-checks-on s (refused o n ∷ l) m = rw (checks-on (afterWrite (afterRead s o) o 0x00) l m) refl
-checks-on s (run n ∷ l) m = rw (checks-on s l m) refl
+checks-on s (write o v ∷ l) m = rw (checks-on (left (call.write o v) s) l m) refl
+checks-on s (ignored o v ∷ l) m = rw (checks-on (left (call.write o v) s) l m) refl
+checks-on s (reads o v ∷ l) m = rw (checks-on (left (call.read o) s) l m) refl
 checks-on s (answer n k a ∷ l) m = rw (checks-on (left (call.respond k a) s) l m) refl
-checks-on s (reset ∷ l) m = rw (checks-on (left call.reset s) l m) refl
-checks-on s (shows b ∷ l) m = rw (checks-on s l m) refl
+checks-on s (gets c n v ∷ l) m = rw (checks-on (left c s) l m) refl
+checks-on s (leaves c n v ∷ l) m = rw (checks-on (left c s) l m) refl
+checks-on s (run n ∷ l) m = rw (checks-on s l m) refl
 
 gots-on : (a b : List Check) → gots (a ++ b) ≡ gots a ++ gots b
 gots-on [] b = refl
@@ -77,7 +76,7 @@ holds-on s t l m h e k = rw (checks-on s l m, gots-on, wants-on, e, h, k) refl
 
 -- the definitions of the calls: to unfold this is to unfold them
 unfoldable calls : Unit {0}
-unfolding powerOn read readCycle acceptedRead busRefusal lentRefusal freshDevice lengthsAllowed inShape registerAt accessBits registerRead bus.write writeCycle acceptedWrite resolve registerWrite writeEffect applyChange applyCommand launchAfter pcrsAfter accessCommand request release seize writeAccess handover declaredSize stsLow stsByte stsCommand writeSts power.reset engine.respond answerCycle acceptedAnswer answerRefusal windowSpan writeEnable writeStatus enableByte statusByte clearSeized
+unfolding powerOn read readCycle acceptedRead busRefusal lentRefusal freshDevice lengthsAllowed inShape registerAt accessBits registerRead bus.write writeCycle acceptedWrite resolve registerWrite writeEffect applyChange applyCommand launchAfter pcrsAfter accessCommand request release seize writeAccess handover declaredSize stsLow stsByte stsCommand writeSts power.reset engine.respond answerCycle acceptedAnswer answerRefusal windowSpan writeEnable writeStatus enableByte statusByte capabilityByte lineAsserted clearSeized
 calls = tt
 
 -- by computation
@@ -149,7 +148,7 @@ abbrev fourthPart : List Line
 fourthPart =
     (answer 4 1 (filler 0 9) ∷ answer 4 1 (filler 0 1025) ∷ answer 3 0 (filler 0 10) ∷ answer 3 2 (filler 0 10) ∷ reads 0x0018 0x80
     ∷ answer 0 1 (filler 240 10) ∷ answer 3 1 (filler 0 10) ∷ reads 0x0018 0x90 ∷ shows (filler 240 10) ∷ [])
-    ++ receive (filler 240 10) ++ (reads 0x0024 0xff ∷ shows [] ∷ [])
+    ++ receive (filler 240 10) ++ burst 0 ++ (reads 0x0024 0xff ∷ shows [] ∷ [])
 
 runs-on : (played ten thirdPart ≡ running) × Holds running fourthPart
 unfolding checks calls played
@@ -190,9 +189,18 @@ further : (d : Device) → Each (fresh d) (seizures ∷ marks ∷ established �
 unfolding checks calls
 further d = (refl, (refl, (refl, (refl, tt))))
 
-served-down : (d : Device) → Each (fresh d) (allWait ∷ highBytes ∷ [])
+served-down : (d : Device) → Each (fresh d) (allWait ∷ highBytes ∷ registers ∷ [])
 unfolding checks calls
-served-down d = (refl, (refl, tt))
+served-down d = (refl, (refl, (refl, tt)))
+
+bursts-hold : (d : Device) → Holds (fresh d) bursts
+unfolding checks calls
+bursts-hold d = refl
+
+-- the questions look at the PCRs and at the permission table
+questions-hold : (d : Device) → Holds (fresh d) questions
+unfolding checks calls bank.fresh bank.withDynamic permissionTable mayReset mayExtend permission pcrValue pcrRefusal
+questions-hold d = refl
 
 -- ---- the claim
 
@@ -203,11 +211,12 @@ each-on s (e ∷ a) b h k = (h .0, each-on s a b (h .1) k)
 pub sheet-holds : SheetHolds
 sheet-holds d =
     let s : State = fresh d in
-    let ours : List (List Line) = onlookers ∷ engineAnswers ∷ allWait ∷ highBytes ∷ [] in
+    let last : List (List Line) = bursts ∷ questions ∷ [] in
+    let ours : List (List Line) = onlookers ∷ engineAnswers ∷ allWait ∷ highBytes ∷ registers ∷ last in
     let others : List (List Line) = seizures ∷ marks ∷ established ∷ interrupts ∷ ours in
     let fromEleven : List (List Line) = p11 ∷ p12 ∷ others in
     each-on s (p1 ∷ p2 ∷ p3 ∷ p4 ∷ p5 ∷ p6 ∷ p7 ∷ []) (p8 ∷ p9 ∷ p10 ∷ p10′ ∷ fromEleven) (before-8 d) (
       p8-holds d,
       each-on s (p9 ∷ p10 ∷ []) (p10′ ∷ fromEleven) (after-8 d) (each-on s (p10′ ∷ []) fromEleven (after-10 d) (each-on s (p11 ∷ p12 ∷ []) others (last-two d)
-          (each-on s (seizures ∷ marks ∷ established ∷ interrupts ∷ []) ours (further d) (onlookers-hold d, (engine-holds d, served-down d))))),
+          (each-on s (seizures ∷ marks ∷ established ∷ interrupts ∷ []) ours (further d) (onlookers-hold d, (engine-holds d, each-on s (allWait ∷ highBytes ∷ registers ∷ []) last (served-down d) (bursts-hold d, (questions-hold d, tt))))))),
     )

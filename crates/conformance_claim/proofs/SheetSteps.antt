@@ -8,10 +8,10 @@ use Rattle.record.specs.declared.Device.{Device}
 use Rattle.record_shape.specs.Shape.{lengthsAllowed}
 use Rattle.call_power.specs.Power.{powerOn}
 use Rattle.claims.specs.Calls as call
-use Rattle.claims.specs.Calls.{Call, State, state, Answer, Called, called, left}
+use Rattle.claims.specs.Calls.{Call, State, state, Value, Answer, Called, called, left}
 use Rattle.claims.proofs.Steps.{Step}
 use Rattle.claims.proofs.Bridge.{step-called, called-step}
-use Rattle.conformance_claim.specs.Sheet.{Line, write, ignored, reads, refused, run, answer, reset, shows, Seen, number, answered, all, fresh, checks, gots, wants, sheet, Each}
+use Rattle.conformance_claim.specs.Sheet.{Line, write, ignored, reads, answer, gets, leaves, run, Seen, number, answered, all, fresh, checks, gots, wants, sheet, Each}
 use Rattle.conformance_claim.proofs.SheetHolds.{sheet-holds}
 
 -- the lines, played from a state, and what is seen
@@ -21,13 +21,12 @@ pub data Plays : State → List Line → List Seen → Type 0 where
   ignores : {s s′ : State} {a : Answer} {o v : ℕ} {l : List Line} {z : List Seen} → Step (call.write o v) s a s′ → Plays s′ l z
       → Plays s (ignored o v ∷ l) (answered a ∷ all s′ ∷ z)
   looks : {s s′ : State} {a : Answer} {o v : ℕ} {l : List Line} {z : List Seen} → Step (call.read o) s a s′ → Plays s′ l z → Plays s (reads o v ∷ l) (answered a ∷ z)
-  refuses : {s s′ s″ : State} {a a′ : Answer} {o n : ℕ} {l : List Line} {z : List Seen} → Step (call.read o) s a s′ → Step (call.write o 0x00) s′ a′ s″ → Plays s″ l z
-      → Plays s (refused o n ∷ l) (answered a ∷ all s′ ∷ answered a′ ∷ all s″ ∷ z)
-  counts : {s : State} {n : ℕ} {l : List Line} {z : List Seen} → Plays s l z → Plays s (run n ∷ l) (number (s .device .control .run) ∷ z)
   responds : {s s′ : State} {a : Answer} {n k : ℕ} {b : List ℕ} {l : List Line} {z : List Seen} → Step (call.respond k b) s a s′ → Plays s′ l z
       → Plays s (answer n k b ∷ l) (answered a ∷ z)
-  restarts : {s s′ : State} {a : Answer} {l : List Line} {z : List Seen} → Step call.reset s a s′ → Plays s′ l z → Plays s (reset ∷ l) (answered a ∷ z)
-  views : {s s′ : State} {a : Answer} {b : List ℕ} {l : List Line} {z : List Seen} → Step call.window s a s′ → Plays s l z → Plays s (shows b ∷ l) (answered a ∷ z)
+  steps : {s s′ : State} {a : Answer} {c : Call} {n : ℕ} {v : Value} {l : List Line} {z : List Seen} → Step c s a s′ → Plays s′ l z → Plays s (gets c n v ∷ l) (answered a ∷ z)
+  stands : {s s′ : State} {a : Answer} {c : Call} {n : ℕ} {v : Value} {l : List Line} {z : List Seen} → Step c s a s′ → Plays s′ l z
+      → Plays s (leaves c n v ∷ l) (answered a ∷ all s′ ∷ z)
+  counts : {s : State} {n : ℕ} {l : List Line} {z : List Seen} → Plays s l z → Plays s (run n ∷ l) (number (s .device .control .run) ∷ z)
 
 -- a step is what `called` says
 by-step : {c : Call} {s s′ : State} {a : Answer} → Step c s a s′ → (f : Answer → State → List Seen) → f a s′ ≡ f (called c s .answer) (left c s)
@@ -39,14 +38,10 @@ plays-gots none = refl
 plays-gots (writes {a = a} {l = l} p ps) = ap (λ (z : List Seen). answered a ∷ z) (plays-gots ps) ∙ by-step p (λ b t. answered b ∷ gots (checks t l))
 plays-gots (ignores {s′ = t} {a = a} {l = l} p ps) = ap (λ (z : List Seen). answered a ∷ all t ∷ z) (plays-gots ps) ∙ by-step p (λ b t. answered b ∷ all t ∷ gots (checks t l))
 plays-gots (looks {a = a} {l = l} p ps) = ap (λ (z : List Seen). answered a ∷ z) (plays-gots ps) ∙ by-step p (λ b t. answered b ∷ gots (checks t l))
-plays-gots (refuses {s′ = t} {s″ = u} {a = a} {a′ = b} {o = o} {l = l} p q ps) =
-    ap (λ (z : List Seen). answered a ∷ all t ∷ answered b ∷ all u ∷ z) (plays-gots ps)
-    ∙ by-step q (λ b u. answered a ∷ all t ∷ answered b ∷ all u ∷ gots (checks u l))
-    ∙ by-step p (λ a t. answered a ∷ all t ∷ answered (called (call.write o 0x00) t .answer) ∷ all (left (call.write o 0x00) t) ∷ gots (checks (left (call.write o 0x00) t) l))
-plays-gots (counts {s = s} ps) = ap (λ (z : List Seen). number (s .device .control .run) ∷ z) (plays-gots ps)
 plays-gots (responds {a = a} {l = l} p ps) = ap (λ (z : List Seen). answered a ∷ z) (plays-gots ps) ∙ by-step p (λ b t. answered b ∷ gots (checks t l))
-plays-gots (restarts {a = a} {l = l} p ps) = ap (λ (z : List Seen). answered a ∷ z) (plays-gots ps) ∙ by-step p (λ b t. answered b ∷ gots (checks t l))
-plays-gots (views {s = s} {a = a} {l = l} p ps) = ap (λ (z : List Seen). answered a ∷ z) (plays-gots ps) ∙ by-step p (λ b t. answered b ∷ gots (checks s l))
+plays-gots (steps {a = a} {l = l} p ps) = ap (λ (z : List Seen). answered a ∷ z) (plays-gots ps) ∙ by-step p (λ b t. answered b ∷ gots (checks t l))
+plays-gots (stands {s′ = t} {a = a} {l = l} p ps) = ap (λ (z : List Seen). answered a ∷ all t ∷ z) (plays-gots ps) ∙ by-step p (λ b t. answered b ∷ all t ∷ gots (checks t l))
+plays-gots (counts {s = s} ps) = ap (λ (z : List Seen). number (s .device .control .run) ∷ z) (plays-gots ps)
 
 -- every entry, played so, shows what is wanted
 abbrev pub EachPlays : State → List (List Line) → Type 0
@@ -63,14 +58,10 @@ plays s [] = ([], none)
 plays s (write o v ∷ l) = let k : _ = plays (left (call.write o v) s) l in (answered _ ∷ k .0, writes (called-step (call.write o v) s) (k .1))
 plays s (ignored o v ∷ l) = let k : _ = plays (left (call.write o v) s) l in (answered _ ∷ all _ ∷ k .0, ignores (called-step (call.write o v) s) (k .1))
 plays s (reads o v ∷ l) = let k : _ = plays (left (call.read o) s) l in (answered _ ∷ k .0, looks (called-step (call.read o) s) (k .1))
-plays s (refused o n ∷ l) =
-    let t : State = left (call.read o) s in
-    let k : _ = plays (left (call.write o 0x00) t) l in
-    (answered _ ∷ all _ ∷ answered _ ∷ all _ ∷ k .0, refuses (called-step (call.read o) s) (called-step (call.write o 0x00) t) (k .1))
-plays s (run n ∷ l) = let k : _ = plays s l in (number _ ∷ k .0, counts (k .1))
 plays s (answer n r b ∷ l) = let k : _ = plays (left (call.respond r b) s) l in (answered _ ∷ k .0, responds (called-step (call.respond r b) s) (k .1))
-plays s (reset ∷ l) = let k : _ = plays (left call.reset s) l in (answered _ ∷ k .0, restarts (called-step call.reset s) (k .1))
-plays s (shows b ∷ l) = let k : _ = plays s l in (answered _ ∷ k .0, views (called-step call.window s) (k .1))
+plays s (gets c n v ∷ l) = let k : _ = plays (left c s) l in (answered _ ∷ k .0, steps (called-step c s) (k .1))
+plays s (leaves c n v ∷ l) = let k : _ = plays (left c s) l in (answered _ ∷ all _ ∷ k .0, stands (called-step c s) (k .1))
+plays s (run n ∷ l) = let k : _ = plays s l in (number _ ∷ k .0, counts (k .1))
 
 -- the power-on that every entry begins with is accepted, and from what it leaves every play shows what is wanted
 pub sheet-on-contracts : {d : Device} {a : Answer} {s : State} → Step (call.powerOn false (replicate 5 0)) (state d (replicate 1024 0) (replicate 1024 0)) a s

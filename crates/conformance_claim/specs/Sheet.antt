@@ -2,15 +2,16 @@
 -- with what each of them has to give, and further entries of our own. The numerals of P1 to P12 are the paper's. Assumes nothing.
 use Prim.Native.Nat.{ℕ, zero, suc, _+_, _%_}
 use mathlib.Core.Path.{_≡_}
-use mathlib.Core.Bool.{false}
+use mathlib.Core.Bool.{Bool, true, false}
 use mathlib.Core.List.{List, [], _∷_, _++_}
 use lib.ListN.{drop, replicate}
 use Rattle.record.specs.declared.Device.{Device}
 use Rattle.claims.specs.Calls as call
-use Rattle.claims.specs.Calls.{State, state, Value, byte, bytes, nothing, Answer, called, left}
+use Rattle.claims.specs.Calls.{Call, State, state, Value, byte, bytes, flag, nothing, Answer, called, left}
 
 -- ---- what a line of the sheet says
 
+-- `gets` would do for most lines; the first four have forms of their own because they are computed in fewer steps
 pub data Line : Type 0 where
   -- offset, byte: the write is accepted
   write : ℕ → ℕ → Line
@@ -18,32 +19,48 @@ pub data Line : Type 0 where
   ignored : ℕ → ℕ → Line
   -- offset, byte: the read is accepted and gives the byte
   reads : ℕ → ℕ → Line
-  -- offset, number: a read and a write of 00h are refused with the number, and change nothing
-  refused : ℕ → ℕ → Line
-  -- the record's run number
-  run : ℕ → Line
   -- number, run number, bytes: an engine's answer gets the refusal number
   answer : ℕ → ℕ → List ℕ → Line
-  -- a reset is accepted
-  reset : Line
-  -- the window shows these bytes
-  shows : List ℕ → Line
-
--- ---- how the lines are played: each call is handed what the last one left
+  -- any call gets the refusal number and the value
+  gets : Call → ℕ → Value → Line
+  -- so too, and leaves all as it was
+  leaves : Call → ℕ → Value → Line
+  -- the record's run number
+  run : ℕ → Line
 
 -- "accepted"
 abbrev pub accepted : ℕ
 accepted = 0
 
+-- a read at the offset and a write of 00h are refused with the number, and change nothing: "a refused read gives FFh"
+abbrev pub refused : ℕ → ℕ → List Line
+refused o n = leaves (call.read o) n (byte 0xff) ∷ leaves (call.write o 0x00) n nothing ∷ []
+
+-- a reset is accepted
+abbrev pub reset : Line
+reset = gets call.reset accepted nothing
+
+-- the window shows these bytes
+abbrev pub shows : List ℕ → Line
+shows b = gets call.window accepted (bytes b)
+
+-- the interrupt line is asserted, or not
+abbrev pub line : Bool → Line
+line b = gets call.interruptLine accepted (flag b)
+
+-- the PCR has this byte twenty times
+abbrev pub holds : ℕ → ℕ → Line
+holds i v = gets (call.pcrValue i) accepted (bytes (replicate 20 v))
+
+-- may the locality reset the PCR, and may it extend it
+abbrev pub may : ℕ → ℕ → Bool → Bool → List Line
+may i x r e = gets (call.mayReset i x) accepted (flag r) ∷ gets (call.mayExtend i x) accepted (flag e) ∷ []
+
+-- ---- how the lines are played: each call is handed what the last one left
+
 -- "fresh": a power-on with FIFOs of 1,024 bytes, "not established", the identity bytes 0; d is whatever was there
 abbrev pub fresh : Device → State
 fresh d = left (call.powerOn false (replicate 5 0)) (state d (replicate 1024 0) (replicate 1024 0))
-
-abbrev pub afterRead : State → ℕ → State
-afterRead s o = left (call.read o) s
-
-abbrev pub afterWrite : State → ℕ → ℕ → State
-afterWrite s o v = left (call.write o v) s
 
 -- what is looked at: a run number, a call's answer, or all that it leaves
 pub data Seen : Type 0 where
@@ -66,22 +83,16 @@ answers g n v = record { got = answered g; wanted = answered (record { refusal =
 abbrev pub unchanged : State → State → Check
 unchanged t s = record { got = all t; wanted = all s }
 
--- "a refused read gives FFh"
 unfoldable pub checks : State → List Line → List Check
 checks s [] = []
-checks s (write o v ∷ l) = answers (called (call.write o v) s .answer) accepted nothing ∷ checks (afterWrite s o v) l
-checks s (ignored o v ∷ l) = answers (called (call.write o v) s .answer) accepted nothing ∷ unchanged (afterWrite s o v) s ∷ checks (afterWrite s o v) l
-checks s (reads o v ∷ l) = answers (called (call.read o) s .answer) accepted (byte v) ∷ checks (afterRead s o) l
-checks s (refused o n ∷ l) =
-    answers (called (call.read o) s .answer) n (byte 0xff)
-    ∷ unchanged (afterRead s o) s
-    ∷ answers (called (call.write o 0x00) (afterRead s o) .answer) n nothing
-    ∷ unchanged (afterWrite (afterRead s o) o 0x00) s
-    ∷ checks (afterWrite (afterRead s o) o 0x00) l
-checks s (run n ∷ l) = numbered (s .device .control .run) n ∷ checks s l
+checks s (write o v ∷ l) = answers (called (call.write o v) s .answer) accepted nothing ∷ checks (left (call.write o v) s) l
+checks s (ignored o v ∷ l) =
+    answers (called (call.write o v) s .answer) accepted nothing ∷ unchanged (left (call.write o v) s) s ∷ checks (left (call.write o v) s) l
+checks s (reads o v ∷ l) = answers (called (call.read o) s .answer) accepted (byte v) ∷ checks (left (call.read o) s) l
 checks s (answer n k a ∷ l) = answers (called (call.respond k a) s .answer) n nothing ∷ checks (left (call.respond k a) s) l
-checks s (reset ∷ l) = answers (called call.reset s .answer) accepted nothing ∷ checks (left call.reset s) l
-checks s (shows b ∷ l) = answers (called call.window s .answer) accepted (bytes b) ∷ checks s l
+checks s (gets c n v ∷ l) = answers (called c s .answer) n v ∷ checks (left c s) l
+checks s (leaves c n v ∷ l) = answers (called c s .answer) n v ∷ unchanged (left c s) s ∷ checks (left c s) l
+checks s (run n ∷ l) = numbered (s .device .control .run) n ∷ checks s l
 
 abbrev pub gots : List Check → List Seen
 gots [] = []
@@ -190,7 +201,7 @@ p11 =
 
 -- "P12 4FFFh reads FFh; 5000h is refused, 1."
 abbrev pub p12 : List Line
-p12 = reads 0x4fff 0xff ∷ refused 0x5000 1 ∷ []
+p12 = reads 0x4fff 0xff ∷ refused 0x5000 1
 
 -- ---- further entries, our own: what P1 to P12 do not look at
 
@@ -210,12 +221,12 @@ marks =
 abbrev pub established : List Line
 established = reads 0x0000 0x81 ∷ write 0x4028 0x00 ∷ reads 0x0000 0x80 ∷ reads 0x4000 0xa0 ∷ write 0x4020 0x00 ∷ reads 0x4000 0x80 ∷ reset ∷ reads 0x0000 0x80 ∷ []
 
--- only the active locality writes INT_ENABLE and INT_STATUS; every locality reads them
+-- only the active locality writes INT_ENABLE and INT_STATUS; every locality reads them; the line follows
 abbrev pub interrupts : List Line
 interrupts =
     write 0x1000 0x02 ∷ ignored 0x2008 0xff ∷ write 0x200b 0x80 ∷ reads 0x2008 0x08 ∷ reads 0x200b 0x00 ∷ write 0x1008 0x85 ∷ write 0x100b 0x80
     ∷ reads 0x1008 0x8d ∷ reads 0x2008 0x8d ∷ reads 0x400b 0x80
-    ∷ write 0x1018 0x40 ∷ reads 0x0010 0x80 ∷ write 0x0010 0x80 ∷ reads 0x1010 0x80 ∷ write 0x1010 0x80 ∷ reads 0x3010 0x00 ∷ []
+    ∷ line false ∷ write 0x1018 0x40 ∷ reads 0x0010 0x80 ∷ line true ∷ write 0x0010 0x80 ∷ reads 0x1010 0x80 ∷ write 0x1010 0x80 ∷ reads 0x3010 0x00 ∷ line false ∷ []
 
 -- in Completion a locality that is not active reads FFh at STS and FIFO, and its writes there change nothing
 abbrev pub onlookers : List Line
@@ -232,7 +243,7 @@ engineAnswers =
     p8
     ++ (answer 4 1 (filler 0 9) ∷ answer 4 1 (filler 0 1025) ∷ answer 3 0 (filler 0 10) ∷ answer 3 2 (filler 0 10) ∷ reads 0x0018 0x80
     ∷ answer 0 1 (filler 240 10) ∷ answer 3 1 (filler 0 10) ∷ reads 0x0018 0x90 ∷ shows (filler 240 10) ∷ [])
-    ++ receive (filler 240 10) ++ (reads 0x0024 0xff ∷ shows [] ∷ [])
+    ++ receive (filler 240 10) ++ burst 0 ++ (reads 0x0024 0xff ∷ shows [] ∷ [])
 
 -- all other four wait at once, and are served from the highest down
 abbrev pub allWait : List Line
@@ -245,10 +256,34 @@ allWait =
 abbrev pub highBytes : List Line
 highBytes = p7 ++ (send (0xff ∷ 0xfe ∷ 0xf0 ∷ []) ++ (shows (0xff ∷ 0xfe ∷ 0xf0 ∷ []) ∷ []))
 
+-- "INT_VECTOR reads 0, writes ignored. Capability reads 95h, 0, 0, 0. .. Any other offset reads FFh and ignores writes; so do the hash start and
+-- end offsets on a read."; "STS and FIFO read FFh .. for any locality that isn't active"; the identity bytes are 0 here
+abbrev pub registers : List Line
+registers =
+    reads 0x000c 0x00 ∷ ignored 0x000c 0x0f ∷ reads 0x000d 0xff ∷ reads 0x0014 0x95 ∷ ignored 0x0014 0x00 ∷ reads 0x0015 0x00 ∷ reads 0x0016 0x00 ∷ reads 0x0017 0x00
+    ∷ reads 0x0001 0xff ∷ ignored 0x0001 0x02 ∷ reads 0x0007 0xff ∷ reads 0x0018 0xff ∷ reads 0x001b 0xff ∷ reads 0x0024 0xff ∷ reads 0x0028 0xff ∷ reads 0x4020 0xff ∷ reads 0x4028 0xff
+    ∷ reads 0x0f00 0x00 ∷ ignored 0x0f00 0x01 ∷ reads 0x0f04 0x00 ∷ reads 0x0f05 0xff ∷ reads 0x1014 0x95 ∷ reads 0x4f04 0x00 ∷ []
+
+-- "in Completion the lesser of 64 and the bytes unread; otherwise 0": in Idle, with a whole command received, and while it runs
+abbrev pub bursts : List Line
+bursts =
+    (write 0x0000 0x02 ∷ reads 0x0018 0x80 ∷ []) ++ burst 0
+    ++ (write 0x0018 0x40 ∷ []) ++ send (head 0x00 0x0a) ++ complete 3 ++ burst 0 ++ (write 0x0018 0x20 ∷ []) ++ burst 0
+    ++ (answer 0 1 (filler 0 66) ∷ reads 0x0018 0x90 ∷ []) ++ burst 64 ++ receive (filler 0 2) ++ burst 64 ++ receive (filler 2 1) ++ burst 63
+
+-- "PCRs 0 to 16 and 23 all 00h, 17 to 22 all FFh"; a start sets "PCRs 17 to 22 all 00h"; rows of the permission table; "5 question with PCR above 23
+-- or locality above 4"
+abbrev pub questions : List Line
+questions =
+    (holds 0 0x00 ∷ holds 16 0x00 ∷ holds 17 0xff ∷ holds 22 0xff ∷ holds 23 0x00 ∷ gets (call.pcrValue 24) 5 (bytes (replicate 20 0x00)) ∷ [])
+    ++ may 15 4 false true ++ may 16 0 true true ++ may 17 4 true true ++ may 17 1 false false ++ may 19 4 true false ++ may 19 3 false true ++ may 20 4 true false ++ may 20 1 false true
+    ++ may 22 2 true true ++ may 22 4 false false ++ may 23 4 true true
+    ++ (gets (call.mayReset 24 0) 5 (flag false) ∷ gets (call.mayExtend 23 5) 5 (flag false) ∷ write 0x4028 0x00 ∷ holds 16 0x00 ∷ holds 17 0x00 ∷ holds 22 0x00 ∷ holds 23 0x00 ∷ [])
+
 abbrev pub sheet : List (List Line)
 sheet =
     p1 ∷ p2 ∷ p3 ∷ p4 ∷ p5 ∷ p6 ∷ p7 ∷ p8 ∷ p9 ∷ p10 ∷ p10′ ∷ p11 ∷ p12
-    ∷ seizures ∷ marks ∷ established ∷ interrupts ∷ onlookers ∷ engineAnswers ∷ allWait ∷ highBytes ∷ []
+    ∷ seizures ∷ marks ∷ established ∷ interrupts ∷ onlookers ∷ engineAnswers ∷ allWait ∷ highBytes ∷ registers ∷ bursts ∷ questions ∷ []
 
 -- the claim: every entry holds, from a fresh power-on
 abbrev pub Each : State → List (List Line) → Type 0
