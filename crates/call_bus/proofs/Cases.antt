@@ -2,11 +2,11 @@
 use mathlib.Core.Path.{_≡_, refl, subst, sym}
 use mathlib.Core.Bool.{Bool, true, false, cond}
 use mathlib.Core.List.{List}
-use Prim.Native.Nat.{ℕ, _+_, _-_, _<_, _≤_}
+use Prim.Native.Nat.{ℕ, _+_, _-_, _%_, _<_, _≤_}
 use native.Mathlib.Omega.{arith}
 use lib.ListN.{length}
 use lib.Dec.{eqb, leb}
-use borrow.Author.Tests.{eqb-true, eqb-false, leb-true, leb-false}
+use borrow.Author.Tests.{eqb-true, eqb-false, eq-eqb, leb-true, leb-false}
 use Rattle.refusal.specs.Refusal.{accepted, hashLength}
 use Rattle.reg_layout.specs.Offsets.{within, inFour, placeOf, lastOffset, access, intEnable, intStatus, sts, dataFifo, hashStart, hashEnd, hashData}
 use Rattle.reg_layout.proofs.Within.{within-then}
@@ -26,7 +26,7 @@ use Rattle.record.specs.declared.Phase.the-variants.{Idle}
 use Rattle.reg_map.specs.Map.{registerAt, registerFor}
 use Rattle.reg_map.specs.declared.Register.{Register}
 use Rattle.reg_map.specs.declared.Register.the-variants.{Access, Sts}
-use Rattle.reg_map.proofs.MapLaws.{Inert, register-elim, access-apart, fifo-apart}
+use Rattle.reg_map.proofs.MapLaws.{Inert, register-elim, access-apart, fifo-apart, sts-is, at-sts}
 use Rattle.reg_sts_read.specs.Size.{declaredSize}
 use Rattle.reg_interrupts.specs.Interrupts.{writeEnable, writeStatus}
 use Rattle.reg_sts_write.specs.Completion.{ignored, badSize}
@@ -89,6 +89,16 @@ module _ (d : Device) (w r : List ℕ) (o : ℕ) where
           → ReadCase d w r o (readOutcome (cond t (acceptedRead o (d .control) (d .phase) (d .identity) w r) (refusedRead (busRefusalOf d w r o) (d .phase))) d)
       by true e = register-read (eqb-true (busRefusalOf d w r o) accepted e)
       by false e = refused refl (eqb-false (busRefusalOf d w r o) accepted e)
+
+  -- a locality that is not active reads FFh at STS
+  pub sts-misses : busRefusalOf d w r o ≡ accepted → within sts (sts + 2) (placeOf o) ≡ true → holds (owner d) (pageAt o) ≡ false → read d w r o ≡ gives accepted 0xff d
+  unfolding read readCycle acceptedRead registerRead
+  sts-misses e i h = rw (eq-eqb (busRefusalOf d w r o) accepted e, register, h) refl
+    where
+      register : registerFor o ≡ Sts (placeOf o % 4)
+      register =
+          let k : _ = within-then sts (sts + 2) (placeOf o) i in
+          sym (at-sts (placeOf o) (Sts (placeOf o % 4)) (omega arith) (sts-is (placeOf o % 4) (omega arith)))
 
 -- ---- a write
 

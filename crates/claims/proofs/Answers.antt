@@ -35,7 +35,7 @@ use Rattle.call_query.specs.declared.Span.{Span}
 use Rattle.call_query.proofs.Cases as asking
 use Rattle.call_query.proofs.Cases.{WindowCase, window-case}
 use Rattle.call_bus.proofs.Cases as bus
-use Rattle.call_bus.proofs.Cases.{owner, ReadCase, read-case, Writes, starts, ends, joins, ignores, aborts, keeps, sets, commands, WriteCase, write-case}
+use Rattle.call_bus.proofs.Cases.{owner, ReadCase, read-case, sts-misses, Writes, starts, ends, joins, ignores, aborts, keeps, sets, commands, WriteCase, write-case}
 use Rattle.call_respond.proofs.Cases as engine
 use Rattle.call_respond.proofs.Cases.{RespondCase, respond-case}
 use Rattle.claims.specs.Calls as call
@@ -292,14 +292,18 @@ module _ {c : ℕ} {m : Model} {q : Mail} (s : State) (h : Kept c m q s) (p : Pl
       by (bus.moves x j y) = rw next refl
       by (bus.misses x j y) = absurd (true≢false (sym (holds-is o e) ∙ y))
 
-  read-other : (o : ℕ) → o ≤ 0x4fff → isFifo o ≡ true → isActive (m .active) (o / 0x1000) ≡ false → called (read o) s ≡ gives 0 (byte 0xff) s
-  read-other o l i e = by (read-case (s .device) (s .writeFifo) (s .readFifo) o)
+  read-other : (o : ℕ) → o ≤ 0x4fff → isPort o ≡ true → isActive (m .active) (o / 0x1000) ≡ false → called (read o) s ≡ gives 0 (byte 0xff) s
+  read-other o l i e = at (within 0x18 0x1a (placeOf o)) refl i
     where
-      by : {u : ReadOutcome} → ReadCase (s .device) (s .writeFifo) (s .readFifo) o u → call.reads u s ≡ gives 0 (byte 0xff) s
-      by (bus.refused x f) = absurd (f (x ∙ bus-zero o l))
-      by (bus.stays x j y) = absurd (true≢false (sym i ∙ j))
-      by (bus.moves x j y) = absurd (true≢false (sym y ∙ holds-is o e))
-      by (bus.misses x j y) = refl
+      by : isFifo o ≡ true → {u : ReadOutcome} → ReadCase (s .device) (s .writeFifo) (s .readFifo) o u → call.reads u s ≡ gives 0 (byte 0xff) s
+      by i (bus.refused x f) = absurd (f (x ∙ bus-zero o l))
+      by i (bus.stays x j y) = absurd (true≢false (sym i ∙ j))
+      by i (bus.moves x j y) = absurd (true≢false (sym y ∙ holds-is o e))
+      by i (bus.misses x j y) = refl
+
+      at : (t : Bool) → within 0x18 0x1a (placeOf o) ≡ t → (t || isFifo o) ≡ true → called (read o) s ≡ gives 0 (byte 0xff) s
+      at true j i = ap (λ (u : ReadOutcome). call.reads u s) (sts-misses (s .device) (s .writeFifo) (s .readFifo) o (bus-zero o l) j (holds-is o e))
+      at false j i = by i (read-case (s .device) (s .writeFifo) (s .readFifo) o)
 
   -- a page whose writes are hash data or ignored is 4's, and 4 is active
   not-hash-page : (o : ℕ) → isActive (m .active) (o / 0x1000) ≡ false → hashPage o (s .device .launch .sequence) ≡ true → ⊥

@@ -316,6 +316,7 @@ all-launched m bs s (c ∷ cs) a h t b =
     all-launched (step m (happens c s)) (streamStep m bs (entryOf c (refusalOf c s))) (left c s) cs
     (one-call m c s a h) (sound-call m c (refusalOf c s) h) (call-streams m bs (call-case c s) a t) (call-zeroed (call-case c s) b)
 
+-- `Progress` adds that starts and ends are accepted, and has the whole claim
 pub launches : OverLists (λ s₀ h s. Launched (modelAfter h) (streamAfter h) s)
 unfolding modelAfter run events heard after streamFrom
 launches s e i cs =

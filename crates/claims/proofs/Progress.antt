@@ -572,5 +572,6 @@ progress s e i cs = record { works = working; halts = halted }
           refuses = rw k (refused-2 (state (lastPowered (s .device) (heard s (powerOn e i ∷ cs))) (s .writeFifo) (s .readFifo)) q);
         }
 
+-- what `Launch` has, and that starts and ends are accepted
 pub launch-claim : LaunchClaim
 launch-claim s e i cs = record { launched = launches s e i cs; accepts = λ z. launch-accepted (progress s e i cs .works z) }

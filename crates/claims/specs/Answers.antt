@@ -130,8 +130,8 @@ pub record Owned (c : ℕ) (m : Model) (p : Mail) (t : Trail) (s : State) : Type
   -- Completion or from the last 02h
   pub reads : (o : ℕ) → o ≤ 0x4fff → isFifo o ≡ true → isActive (m .active) (o / 0x1000) ≡ true → (a : List ℕ) (k : ℕ) → p .box ≡ answering a k → k < length a
       → called (read o) s .answer ≡ record { refusal = 0; value = byte (getD a k 0) }
-  -- any other locality reads FFh from its FIFO, and its writes at STS and FIFO leave no trace
-  pub others : (o : ℕ) → o ≤ 0x4fff → isFifo o ≡ true → isActive (m .active) (o / 0x1000) ≡ false → called (read o) s ≡ gives 0 (byte 0xff) s
+  -- any other locality reads FFh at STS and FIFO, and its writes there leave no trace
+  pub others : (o : ℕ) → o ≤ 0x4fff → isPort o ≡ true → isActive (m .active) (o / 0x1000) ≡ false → called (read o) s ≡ gives 0 (byte 0xff) s
   pub traceless : (o v : ℕ) → o ≤ 0x4fff → isPort o ≡ true → isActive (m .active) (o / 0x1000) ≡ false → called (write o v) s ≡ gives 0 nothing s
   -- a run is answered by the first answer that carries its number and has 10 to C bytes, unless something ended it before
   pub answered : (bs : List ℕ) → p .box ≡ executing bs → (cs : List Call) → Undisturbed c (p .run) m s cs → (a : List ℕ) → 10 ≤ length a → length a ≤ c
