@@ -1,7 +1,6 @@
 // Plays the bench sheet of its standard input through the public calls, a line for each cycle that it checks.
 use libc::STDIN_FILENO;
 
-mod calls;
 mod play;
 
 use play::play;

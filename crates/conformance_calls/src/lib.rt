@@ -1,4 +1,4 @@
-// The calls that a line of the sheet names.
+// The calls that a line of the sheet names, each with the line that shows what it gave.
 use arbiter::Locality;
 use conformance_lines::line::Step;
 use conformance_lines::line::answer;
@@ -111,8 +111,8 @@ pub fn fill(device: Device, w: &mut [u8], r: &mut [u8], s: Step) -> Device {
     let rest = s.rest;
     let mut b = [0u8; 1025];
     free_bytes(&mut b, s.byte);
-    let n = times(rest);
-    let part = front(&b, n as usize);
+    let part = front(&b, times(rest) as usize);
+    let n = part.len() as u64;
     let t = send(device, w, r, place(s), part);
     show_fill(s, n, t.refusals);
     t.device
@@ -140,8 +140,7 @@ pub fn respond_free(device: Device, w: &mut [u8], r: &mut [u8], s: Step) -> Devi
     let rest = s.rest;
     let mut b = [0u8; 1025];
     free_bytes(&mut b, s.byte);
-    let n = times(rest);
-    let part = front(&b, n as usize);
+    let part = front(&b, times(rest) as usize);
     let o = tis::respond(device, w, r, s.low as u32, part);
     show_answer(s, o.refusal);
     o.device

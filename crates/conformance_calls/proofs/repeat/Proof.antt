@@ -3,8 +3,8 @@ use mathlib.Core.Path.{_≡_}
 use Prim.Native.Nat.{_-_, _≤_}
 use lib.ListN.{length}
 use borrow.Author.Needs.{needs}
-use Rattle.conformance.proofs.calls.repeat.Statement.{statement}
-use Rattle.conformance.proofs.calls.repeat.Tie as tie
+use Rattle.conformance_calls.proofs.repeat.Statement.{statement}
+use Rattle.conformance_calls.proofs.repeat.Tie as tie
 
 abbrev Inv-loop : tie.InvT-loop
 Inv-loop w₀ r₀ offset v n d₀ refusals₀ i₀ w r d refusals i = (i ≤ n) × (length w ≡ length w₀) × (length r ≡ length r₀)

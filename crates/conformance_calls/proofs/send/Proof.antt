@@ -3,8 +3,8 @@ use mathlib.Core.Path.{_≡_}
 use Prim.Native.Nat.{_-_, _≤_}
 use lib.ListN.{length}
 use borrow.Author.Needs.{needs}
-use Rattle.conformance.proofs.calls.send.Statement.{statement}
-use Rattle.conformance.proofs.calls.send.Tie as tie
+use Rattle.conformance_calls.proofs.send.Statement.{statement}
+use Rattle.conformance_calls.proofs.send.Tie as tie
 
 abbrev Inv-loop : tie.InvT-loop
 Inv-loop w₀ r₀ offset bytes d₀ refusals₀ i₀ w r d refusals i =
