@@ -8,7 +8,7 @@ use Prim.Native.Nat.{ℕ, _+_, _≤_, _<_}
 use native.Mathlib.Omega.{arith}
 use lib.ListN.{length, getD}
 use lib.Dec.{eqb, leb, ltb}
-use borrow.Author.Tests.{eqb-true, eq-eqb, leb-true, leb-false, le-leb, lt-leb, lt-ltb, le-ltb}
+use borrow.Author.Tests.{eqb-true, eqb-false, eq-eqb, leb-true, leb-false, le-leb, lt-leb, lt-ltb, le-ltb}
 use Rattle.refusal.specs.Refusal.{accepted}
 use Rattle.reg_layout.specs.Offsets.{inFour, pageOf, lastOffset, hashLocality, hashData, hashStart, hashEnd}
 use Rattle.reg_layout.proofs.Within.{within-then, not-within}
@@ -34,6 +34,7 @@ use Rattle.record.specs.declared.Phase.{Phase}
 use Rattle.record.specs.declared.Phase.the-variants.{Idle, Ready, Reception, Execution, Completion}
 use Rattle.record_shape.specs.Shape as shape
 use Rattle.record_shape.specs.Shape.{viewOf, lengthsOf, lengthsAllowed, activeKnown, freeUnasked, activeUnasked, phasePlaced, countsFit, sequencePlaced, hashCounted, inShape}
+use Rattle.pcr.proofs.MaskTable.{neither}
 use Rattle.record_shape.proofs.Clauses.{both-true}
 use Rattle.reg_fifo.specs.Fifo.{afterRead}
 use Rattle.bus_resolve.specs.Resolve.{pageAt}
@@ -217,23 +218,10 @@ wider c e l (answering a k) f = (f .0, omega (arith, f .1), f .2)
 abbrev Neither : ℕ → Type 0
 Neither n = (n ≡ 2 → ⊥) × (n ≡ 6 → ⊥)
 
-no-0 : Neither 0
-no-0 = (λ e. omega arith, λ e. omega arith)
-
-no-1 : Neither 1
-no-1 = (λ e. omega arith, λ e. omega arith)
-
-no-3 : Neither 3
-no-3 = (λ e. omega arith, λ e. omega arith)
-
-no-4 : Neither 4
-no-4 = (λ e. omega arith, λ e. omega arith)
-
-no-5 : Neither 5
-no-5 = (λ e. omega arith, λ e. omega arith)
-
-no-7 : Neither 7
-no-7 = (λ e. omega arith, λ e. omega arith)
+no : (n : ℕ) → (eqb n 2 || eqb n 6) ≡ false → Neither n
+no n e =
+    let k : _ = neither (eqb n 2) (eqb n 6) e in
+    (eqb-false n 2 (k .0), eqb-false n 6 (k .1))
 
 choice : {a b : ℕ} (t : Bool) → Neither a → Neither b → Neither (cond t a b)
 choice true f g = f
@@ -410,16 +398,16 @@ module _ {c : ℕ} {m : Model} {q : Mail} (s : State) (h : Kept c m q s) (p : Pl
 
   -- 2 and 6 are not among the numbers
   never : (k : Call) → Neither (refusalIn c (s .device) k)
-  never (powerOn e i) = no-0
-  never reset = no-0
-  never (read o) = choice (leb o 0x4fff) no-0 no-1
-  never (write o v) = choice (leb o 0x4fff) (choice (overlong (s .device) o) no-7 no-0) no-1
-  never (respond run a) = choice (running (s .device .phase) && eqb (s .device .control .run) run) (choice (leb 10 (length a) && leb (length a) c) no-0 no-4) no-3
-  never (pcrValue i) = choice (leb i 23) no-0 no-5
-  never interruptLine = no-0
-  never (mayReset i x) = choice (leb i 23 && leb x 4) no-0 no-5
-  never (mayExtend i x) = choice (leb i 23 && leb x 4) no-0 no-5
-  never window = no-0
+  never (powerOn e i) = no 0 refl
+  never reset = no 0 refl
+  never (read o) = choice (leb o 0x4fff) (no 0 refl) (no 1 refl)
+  never (write o v) = choice (leb o 0x4fff) (choice (overlong (s .device) o) (no 7 refl) (no 0 refl)) (no 1 refl)
+  never (respond run a) = choice (running (s .device .phase) && eqb (s .device .control .run) run) (choice (leb 10 (length a) && leb (length a) c) (no 0 refl) (no 4 refl)) (no 3 refl)
+  never (pcrValue i) = choice (leb i 23) (no 0 refl) (no 5 refl)
+  never interruptLine = no 0 refl
+  never (mayReset i x) = choice (leb i 23 && leb x 4) (no 0 refl) (no 5 refl)
+  never (mayExtend i x) = choice (leb i 23 && leb x 4) (no 0 refl) (no 5 refl)
+  never window = no 0 refl
 
   pub works : Works c s
   works = record {
