@@ -10,7 +10,7 @@ use borrow.Author.Tests.{eqb-true, eqb-false, eq-eqb, ne-eqb, leb-false, ltb-fal
 use Rattle.refusal.specs.Refusal.{accepted, offset, fifoLength, run, answerLength, question, shape}
 use Rattle.reg_layout.specs.Offsets.{lastOffset}
 use Rattle.pcr.specs.Bank.{pcrs}
-use Rattle.pcr.proofs.MaskTable.{neither}
+use Rattle.bits.proofs.TestLaws.{neither}
 use Rattle.record.specs.Limits.{fifoLeast, fifoGreatest, header}
 use Rattle.record_shape.specs.Shape.{lengthsOf, lengthsAllowed, inShape}
 use Rattle.record_shape.specs.declared.Lengths.{Lengths}

@@ -18,7 +18,8 @@ use Rattle.record.specs.declared.Phase.the-variants.{Idle, Ready, Reception, Ex
 use Rattle.pcr.specs.Bank.{valueAt}
 use Rattle.call_query.specs.declared.Span.{Span}
 use Rattle.call_query.specs.Query.{pcrOutcome, pcrValue, noSpan, spanIn, windowSpan, Shows, Window}
-use Rattle.record_shape.proofs.Clauses.{both-true, clauses}
+use Rattle.bits.proofs.TestLaws.{both-true}
+use Rattle.record_shape.proofs.Clauses.{clauses}
 use Rattle.call_admission.proofs.RefusalLaws.{lent-then}
 use Rattle.call_admission.specs.Refusals.{lentRefusalOf, pcrRefusal, pcrRefusalOf}
 

@@ -20,8 +20,7 @@ use Rattle.arbiter.specs.State.{holds}
 use Rattle.arbiter_model.specs.Model.{Model, held, step, fresh, Holder, free, writeEvent}
 use Rattle.arbiter_model.specs.Waits.{run}
 use Rattle.record.specs.declared.Device.{Device}
-use Rattle.pcr.proofs.MaskTable.{neither}
-use Rattle.record_shape.proofs.Clauses.{both-true}
+use Rattle.bits.proofs.TestLaws.{both-true, neither}
 use Rattle.reg_fifo.specs.Fifo.{fifoByte}
 use Rattle.bus_resolve.specs.Resolve.{pageAt}
 use Rattle.bus_resolve.proofs.Cases.{hashPage}

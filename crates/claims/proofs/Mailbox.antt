@@ -10,7 +10,7 @@ use borrow.Author.Tests.{eq-eqb, ne-eqb, ltb-true, ltb-false, le-leb}
 use Rattle.refusal.specs.Refusal.{accepted}
 use Rattle.reg_layout.specs.Offsets.{inFour, pageOf, placeOf, lastOffset, access, intEnable, intStatus, sts, dataFifo, hashStart, hashEnd}
 use Rattle.reg_layout.proofs.Within.{not-within, within-then}
-use Rattle.pcr.proofs.MaskTable.{neither}
+use Rattle.bits.proofs.TestLaws.{neither}
 use Rattle.arbiter.specs.State.{holds}
 use Rattle.arbiter.specs.Rules as rule
 use Rattle.arbiter.specs.Rules.{writeAccess}

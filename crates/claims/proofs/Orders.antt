@@ -10,8 +10,7 @@ use borrow.Author.Tests.{ltb-true, ltb-false, leb-true}
 use Rattle.bits.specs.Bits.{bit, isSet}
 use Rattle.record.specs.declared.Phase.{Phase}
 use Rattle.record.specs.declared.Phase.the-variants.{Idle, Reception, Execution}
-use Rattle.pcr.proofs.MaskTable.{neither}
-use Rattle.record_shape.proofs.Clauses.{both-true}
+use Rattle.bits.proofs.TestLaws.{both-true, neither}
 use Rattle.reg_fifo.specs.Fifo.{updateWriteFifo, updateReadFifo}
 use Rattle.reg_fifo.specs.declared.FifoAction.the-variants.{Keep, Clear, Store}
 use Rattle.reg_sts_read.specs.Size.{declaredSize}

@@ -34,8 +34,7 @@ use Rattle.record.specs.declared.Phase.{Phase}
 use Rattle.record.specs.declared.Phase.the-variants.{Idle, Ready, Reception, Execution, Completion}
 use Rattle.record_shape.specs.Shape as shape
 use Rattle.record_shape.specs.Shape.{viewOf, lengthsOf, lengthsAllowed, activeKnown, freeUnasked, activeUnasked, phasePlaced, countsFit, sequencePlaced, hashCounted, inShape}
-use Rattle.pcr.proofs.MaskTable.{neither}
-use Rattle.record_shape.proofs.Clauses.{both-true}
+use Rattle.bits.proofs.TestLaws.{both-true, neither}
 use Rattle.reg_fifo.specs.Fifo.{afterRead}
 use Rattle.bus_resolve.specs.Resolve.{pageAt}
 use Rattle.bus_resolve.proofs.Cases.{hashPage}

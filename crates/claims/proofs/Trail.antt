@@ -9,7 +9,6 @@ use lib.ListN.{length, take, length-append}
 use lib.Seq.{take-length, take-append-le, getD-take}
 use lib.Dec.{eqb, leb, ltb}
 use borrow.Author.Tests.{eqb-true, ltb-true, ltb-false}
-use Rattle.record_shape.proofs.Clauses.{both-true}
 use Rattle.arbiter_model.specs.Model.{Model, Holder, free, held, Event, restart, hashStart, hashEnd, access, nothing, AccessBit, requestUse, activeLocality, seize, beenSeized, withdraw, wait, accessStep, writeEvent, ignoresPage, step}
 use Rattle.arbiter_model.specs.Waits.{relinquishes}
 use Rattle.claims.specs.Launch.{startCounts}
@@ -17,7 +16,7 @@ use Rattle.claims.specs.Mailbox.{Mailbox, idle, ready, receiving, execut
 use Rattle.reg_sts_write.specs.declared.sts.StsCommand.{StsCommand}
 use Rattle.claims.proofs.Orders as orders
 use Rattle.claims.proofs.Orders.{Fits, whole, StsCase, sts-case}
-use Rattle.pcr.proofs.MaskTable.{neither}
+use Rattle.bits.proofs.TestLaws.{both-true, neither}
 use Rattle.claims.specs.Answers.{mayGo, readies, Trail, trail, trailWritten}
 
 -- ---- who is active stays so, unless the command is aborted

@@ -1,13 +1,14 @@
 -- The permission question by cases, and a table of masks that answers as a rule does, by one test that antt computes. Assumes nothing.
 use mathlib.Core.Path.{_≡_, refl, sym, ap, subst, _∙_}
 use mathlib.Core.Logic.{⊎-elim}
-use mathlib.Core.Bool.{Bool, true, false, Bool·beq, cond, true≢false, or-true, _&&_, _||_}
+use mathlib.Core.Bool.{Bool, true, false, Bool·beq, cond, or-true, _&&_, _||_}
 use mathlib.Core.List.{List}
 use Prim.Native.Nat.{ℕ, zero, suc, _<_, _≤_}
 use native.Mathlib.Nat.{le-of-suc-le-suc, not-suc-le-zero, eq-or-lt-of-le}
 use lib.Dec.{T, leb}
 use mir.Facts.{and-yes}
 use borrow.Author.Tests.{leb-false, le-leb, lt-leb}
+use Rattle.bits.proofs.TestLaws.{neither}
 use Rattle.pcr.specs.declared.Permission.{Permission}
 use Rattle.pcr.specs.Bank.{pcrs}
 use Rattle.arbiter.specs.State.{localities}
@@ -41,10 +42,6 @@ at zero f t k h = absurd (not-suc-le-zero h)
 at (suc n) f t k h =
     let both : T (f n) × T (allBelow n f) = and-yes (f n) (allBelow n f) t in
     ⊎-elim (λ e. subst (λ (m : ℕ). T (f m)) (sym e) (both .0)) (λ l. at n f (both .1) k l) (eq-or-lt-of-le (le-of-suc-le-suc h))
-
-pub neither : (a b : Bool) → (a || b) ≡ false → (a ≡ false) × (b ≡ false)
-neither true b e = absurd (true≢false e)
-neither false b e = (refl, e)
 
 if-asked : (b : Bool) {u v : Bool} → (b ≡ false → u ≡ v) → cond b refused (given u) ≡ cond b refused (given v)
 if-asked true f = refl

@@ -4,14 +4,11 @@ use mathlib.Core.Bool.{Bool, true, false, _&&_, true≢false}
 use Prim.Native.Nat.{ℕ, _≤_}
 use lib.Dec.{eqb, leb}
 use borrow.Author.Tests.{eqb-true, leb-true}
+use Rattle.bits.proofs.TestLaws.{both-true}
 use Rattle.record.specs.Limits.{fifoLeast, fifoGreatest}
 use Rattle.record_shape.specs.declared.Lengths.{Lengths}
 use Rattle.record_shape.specs.declared.ShapeView.{ShapeView}
 use Rattle.record_shape.specs.Shape.{lengthsAllowed, activeKnown, freeUnasked, activeUnasked, phasePlaced, countsFit, sequencePlaced, hashCounted, inShape}
-
-pub both-true : (a b : Bool) → (a && b) ≡ true → (a ≡ true) × (b ≡ true)
-both-true true b e = (refl, e)
-both-true false b e = absurd (true≢false (sym e))
 
 pub record Allowed (l : Lengths) : Type 0 where
   pub least : fifoLeast ≤ l .write
