@@ -1,9 +1,12 @@
 //! What the lists reached: calls by kind and refusal, and the events that must not be missing.
 
+mod access;
+
 use crate::offsets;
 use crate::records::CLAUSES;
 use crate::state::State;
 use crate::turn::{Turn, KINDS, REFUSALS};
+use access::AccessReads;
 use yardstick::book::{bound, Served};
 use yardstick::call::Call;
 use yardstick::device::MOST_HASH_BYTES;
@@ -112,6 +115,8 @@ pub struct Coverage {
     lengths: [u64; 2],
     /// Accepted reads and writes at each offset.
     bytes: Vec<[u64; 2]>,
+    /// Accepted reads of ACCESS in each page, by who waits.
+    access: AccessReads,
 }
 
 fn number(waiting: &[bool; 5]) -> usize {
@@ -155,6 +160,7 @@ impl Coverage {
                 self.event(Event::StaleAnswer, refusal == 3 && executing);
             }
             Turn::Made(Call::InterruptLine) => self.event(Event::Line, outcome[0] == 1),
+            Turn::Made(Call::Read { offset }) if refusal == 0 => self.access.count(before, *offset),
             Turn::Made(Call::Write { offset, byte }) if refusal == 0 => {
                 self.count_holding(before, device, *offset, *byte);
                 self.count_command(before, after, *offset, *byte);
@@ -277,6 +283,7 @@ impl Coverage {
             least(0).unwrap_or(0),
             least(1).unwrap_or(0)
         );
+        self.access.print();
         println!("shape rule, records that just break a clause and just meet it:");
         for (clause, [broken, met]) in CLAUSES.iter().zip(self.clauses) {
             println!("  {clause}: {broken} and {met}");
@@ -307,6 +314,7 @@ impl Coverage {
                 }
             }
         }
+        missing.extend(self.access.missing());
         if self.most_waiting < 4 {
             missing.push("four localities waiting at once".to_string());
         }

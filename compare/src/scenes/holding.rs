@@ -13,7 +13,7 @@ impl Scene<'_> {
         self.power_on(c);
         for _ in 0..self.how_many(1200) {
             let x = self.random.locality();
-            match self.random.below(25) {
+            match self.random.below(30) {
                 0..=9 => self.access(x, REQUEST_USE),
                 10..=16 => {
                     let x = self.active();
@@ -39,9 +39,16 @@ impl Scene<'_> {
                     let offset = at(self.active(), INT_STATUS);
                     self.write(offset, 0xff);
                 }
-                _ => self.read(at(x, ACCESS)),
+                _ => self.read_each_access(),
             }
             self.noise();
+        }
+    }
+
+    /// One record as each page shows it.
+    fn read_each_access(&mut self) {
+        for x in 0..5 {
+            self.read(at(x, ACCESS));
         }
     }
 
