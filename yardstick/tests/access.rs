@@ -76,10 +76,37 @@ fn access_reads_show_each_bit() {
         assert_eq!(bench.get(at(x, 0)), 0x90);
         bench.device.active = Some(x);
         assert_eq!(bench.get(at(x, 0)), 0xb0);
-        let other = (x + 1) % 5;
+        let (other, third) = ((x + 1) % 5, (x + 2) % 5);
         bench.device.waiting[usize::from(other)] = true;
         assert_eq!(bench.get(at(x, 0)), 0xb4);
+        assert_eq!(bench.get(at(other, 0)), 0x82);
+        assert_eq!(bench.get(at(third, 0)), 0x84);
+        bench.device.waiting[usize::from(third)] = true;
         assert_eq!(bench.get(at(other, 0)), 0x86);
+    }
+}
+
+/// Every page, set of waiting localities and holder; bit 2 looks at the set without x.
+#[test]
+fn pending_request_leaves_the_own_request_out() {
+    let mut bench = Bench::fresh(1024);
+    for set in 0..32u8 {
+        bench.device.waiting = std::array::from_fn(|y| set & (1 << y) != 0);
+        for active in [None, Some(0), Some(1), Some(2), Some(3), Some(4)] {
+            bench.device.active = active;
+            let in_shape = active.map_or(set == 0, |y| set & (1 << y) == 0);
+            for x in 0..5 {
+                let own = 1 << x;
+                let pending = if set & !own == 0 { 0x00 } else { 0x04 };
+                let waits = if set & own == 0 { 0x00 } else { 0x02 };
+                let holds = if active == Some(x) { 0x20 } else { 0x00 };
+                let expected = match in_shape {
+                    true => (0, 0x81 | holds | pending | waits),
+                    false => (6, 0xff),
+                };
+                assert_eq!(bench.read(at(x, 0)), expected, "{x} {set:05b} {active:?}");
+            }
+        }
     }
 }
 

@@ -1,4 +1,4 @@
-//! The bench sheet of document 01, P1 to P12 and the lines below them.
+//! The bench sheet of document 01, P1 to P12 and the lines below them, with P3 as request W2 of document 02 has it.
 
 mod common;
 
@@ -12,7 +12,7 @@ fn p1_to_p6_holders() {
     bench.put(0x0000, 0x02);
     assert_eq!(bench.get(0x0000), 0xa1, "P2");
     bench.put(0x2000, 0x02);
-    assert_eq!((bench.get(0x2000), bench.get(0x0000)), (0x87, 0xa5), "P3");
+    assert_eq!((bench.get(0x2000), bench.get(0x0000)), (0x83, 0xa5), "P3");
     bench.put(0x3000, 0x02);
     bench.put(0x0000, 0x20);
     assert_eq!(bench.get(0x3000), 0xa5, "P4");

@@ -36,7 +36,7 @@ use Rattle.call_bus.specs.Bus as bus
 use Rattle.call_bus.specs.Bus.{read, readCycle, acceptedRead, writeCycle, acceptedWrite}
 use Rattle.claims.specs.Calls as call
 use Rattle.claims.specs.Calls.{State, state, left}
-use Rattle.conformance_claim.specs.Sheet.{Line, gets, leaves, run, write, ignored, reads, answer, shows, Check, fresh, checks, gots, wants, Holds, head, filler, send, receive, badSize, complete, runs, burst, p1, p2, p3, p4, p5, p6, p7, p8, p9, p10, p10′, p11, p12, seizures, marks, established, interrupts, onlookers, engineAnswers, allWait, highBytes, registers, bursts, questions, Each, SheetHolds}
+use Rattle.conformance_claim.specs.Sheet.{Line, gets, leaves, run, write, ignored, reads, answer, shows, Check, fresh, checks, gots, wants, Holds, head, filler, send, receive, badSize, complete, runs, burst, p1, p2, p3, p4, p5, p6, p7, p8, p9, p10, p10′, p11, p12, seizures, marks, established, interrupts, onlookers, engineAnswers, allWait, pending, highBytes, registers, bursts, questions, Each, SheetHolds}
 
 -- ---- lines played in two parts
 
@@ -189,9 +189,9 @@ further : (d : Device) → Each (fresh d) (seizures ∷ marks ∷ established �
 unfolding checks calls
 further d = (refl, (refl, (refl, (refl, tt))))
 
-served-down : (d : Device) → Each (fresh d) (allWait ∷ highBytes ∷ registers ∷ [])
+served-down : (d : Device) → Each (fresh d) (allWait ∷ pending ∷ highBytes ∷ registers ∷ [])
 unfolding checks calls
-served-down d = (refl, (refl, (refl, tt)))
+served-down d = (refl, (refl, (refl, (refl, tt))))
 
 bursts-hold : (d : Device) → Holds (fresh d) bursts
 unfolding checks calls
@@ -212,11 +212,11 @@ pub sheet-holds : SheetHolds
 sheet-holds d =
     let s : State = fresh d in
     let last : List (List Line) = bursts ∷ questions ∷ [] in
-    let ours : List (List Line) = onlookers ∷ engineAnswers ∷ allWait ∷ highBytes ∷ registers ∷ last in
+    let ours : List (List Line) = onlookers ∷ engineAnswers ∷ allWait ∷ pending ∷ highBytes ∷ registers ∷ last in
     let others : List (List Line) = seizures ∷ marks ∷ established ∷ interrupts ∷ ours in
     let fromEleven : List (List Line) = p11 ∷ p12 ∷ others in
     each-on s (p1 ∷ p2 ∷ p3 ∷ p4 ∷ p5 ∷ p6 ∷ p7 ∷ []) (p8 ∷ p9 ∷ p10 ∷ p10′ ∷ fromEleven) (before-8 d) (
       p8-holds d,
       each-on s (p9 ∷ p10 ∷ []) (p10′ ∷ fromEleven) (after-8 d) (each-on s (p10′ ∷ []) fromEleven (after-10 d) (each-on s (p11 ∷ p12 ∷ []) others (last-two d)
-          (each-on s (seizures ∷ marks ∷ established ∷ interrupts ∷ []) ours (further d) (onlookers-hold d, (engine-holds d, each-on s (allWait ∷ highBytes ∷ registers ∷ []) last (served-down d) (bursts-hold d, (questions-hold d, tt))))))),
+          (each-on s (seizures ∷ marks ∷ established ∷ interrupts ∷ []) ours (further d) (onlookers-hold d, (engine-holds d, each-on s (allWait ∷ pending ∷ highBytes ∷ registers ∷ []) last (served-down d) (bursts-hold d, (questions-hold d, tt))))))),
     )

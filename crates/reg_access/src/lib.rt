@@ -4,8 +4,8 @@ ghost use Prim.Native.Nat.{_<_};
 ghost use Rattle.arbiter.specs.State.{localities};
 ghost use Rattle.reg_access.specs.Access.{pendingRequest, accessBits, accessByte};
 use arbiter::Arbiter;
+use arbiter::LOCALITIES;
 use arbiter::Locality;
-use arbiter::access::any_waits;
 use arbiter::access::holds;
 use bits::flag_at;
 use reg_layout::access::ACTIVE_LOCALITY;
@@ -15,11 +15,16 @@ use reg_layout::access::REQUEST_USE;
 use reg_layout::access::TPM_ESTABLISHMENT;
 use reg_layout::access::TPM_REG_VALID_STS;
 
+// A locality other than x waits; x's own request shows as requestUse.
 fn pending_request(s: Arbiter, x: Locality) -> bool
     ensures { λ r. ⌜ r ≡ pendingRequest s x ⌝ }
 {
-    let w = s.waiting;
-    any_waits(w)
+    let mut pending = false;
+    for y in 0..LOCALITIES {
+        let i = y as usize;
+        pending = pending | (s.waiting[i] & (y != x.0));
+    }
+    pending
 }
 
 // The byte of those five flags.

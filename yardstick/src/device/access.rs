@@ -30,9 +30,15 @@ impl Device {
         TPM_REG_VALID_STS
             | bit(self.is_active(locality), ACTIVE_LOCALITY)
             | bit(self.seized[x], BEEN_SEIZED)
-            | bit(self.waiting.contains(&true), PENDING_REQUEST)
+            | bit(self.another_waits(locality), PENDING_REQUEST)
             | bit(self.waiting[x], REQUEST_USE)
             | bit(!self.established, TPM_ESTABLISHMENT)
+    }
+
+    /// Whether a locality other than this one waits; its own request does not count.
+    #[inline]
+    fn another_waits(&self, locality: u8) -> bool {
+        (0..LOCALITIES).any(|y| self.waiting[y] && y != usize::from(locality))
     }
 
     pub(super) fn write_access(
