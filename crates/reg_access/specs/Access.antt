@@ -1,4 +1,4 @@
--- What ACCESS reads (document 01, 'Who holds the device'; TIS 11.3.10). Assumes nothing.
+-- What ACCESS reads (document 01, 'Who holds the device'; document 02, W2; TIS 11.3.10). Assumes nothing.
 use Prim.Native.Nat.{ℕ, zero, suc, _+_, _<_}
 use mathlib.Core.Path.{_≡_}
 use mathlib.Core.Bool.{Bool, true, false, not, _&&_, _||_}
@@ -14,7 +14,7 @@ use Rattle.arbiter.specs.declared.Arbiter.{Arbiter}
 abbrev pub other : ℕ → Locality → Bool
 other y x = not (eqb y (x .0))
 
--- does one of the localities below n wait that is other than x
+-- does some locality below n, other than x, wait
 abbrev pub otherWaitsBelow : ℕ → Arbiter → Locality → Bool
 otherWaitsBelow zero s x = false
 otherWaitsBelow (suc y) s x = otherWaitsBelow y s x || (waits s y && other y x)

@@ -1,4 +1,4 @@
-// What ACCESS reads (document 01, 'Who holds the device'; TIS 11.3.10).
+// What ACCESS reads (document 01, 'Who holds the device'; document 02, W2; TIS 11.3.10).
 ghost use mathlib.Core.Path.{_≡_};
 ghost use Prim.Native.Nat.{_<_};
 ghost use Rattle.arbiter.specs.State.{localities};
