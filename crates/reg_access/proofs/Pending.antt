@@ -1,6 +1,6 @@
 -- pendingRequest: the walk over the localities, and that the bit shows the others' requests and nothing else. Assumes nothing.
 use mathlib.Core.Path.{_≡_, refl, sym, _∙_, ap}
-use mathlib.Core.Bool.{Bool, true, false, cond, not, _&&_, _||_, true≢false}
+use mathlib.Core.Bool.{Bool, true, false, cond, not, _&&_, _||_, or-true, true≢false}
 use Prim.Native.Nat.{ℕ, zero, suc, _+_, _*_, _<_, _≤_}
 use native.Mathlib.Numerals.{add-one}
 use native.Mathlib.Omega.{arith}
@@ -12,13 +12,6 @@ use Rattle.arbiter.specs.State.{localities, waits}
 use Rattle.arbiter.specs.declared.Locality.{Locality}
 use Rattle.arbiter.specs.declared.Arbiter.{Arbiter}
 use Rattle.reg_access.specs.Access.{other, otherWaitsBelow, pendingRequest, accessBits, accessByte, ShowsOthers}
-
-or-left : (a b : Bool) → a ≡ true → (a || b) ≡ true
-or-left a b e = rw e
-
-or-right : (a b : Bool) → b ≡ true → (a || b) ≡ true
-or-right true b e = refl
-or-right false b e = e
 
 -- ---- the byte
 
@@ -61,8 +54,8 @@ module _ (s : Arbiter) (x : Locality) where
   shows-below (suc n) y l d w = at (eqb y n) refl (λ m. shows-below n y m d w)
     where
       at : (b : Bool) → eqb y n ≡ b → (y < n → otherWaitsBelow n s x ≡ true) → otherWaitsBelow (suc n) s x ≡ true
-      at true e ih = or-right (otherWaitsBelow n s x) (waits s n && other n x) (rw (← eqb-true y n e, w, d))
-      at false e ih = let k : y ≡ n → ⊥ = eqb-false y n e in or-left (otherWaitsBelow n s x) (waits s n && other n x) (ih (omega arith))
+      at true e ih = rw (← eqb-true y n e, w, d, or-true)
+      at false e ih = let k : y ≡ n → ⊥ = eqb-false y n e in rw (ih (omega arith))
 
   -- a locality below n that waits and is other than x
   abbrev Found : ℕ → Type 0
