@@ -35,10 +35,11 @@ impl Device {
             | bit(!self.established, TPM_ESTABLISHMENT)
     }
 
-    /// Whether a locality other than this one waits; its own request does not count.
+    /// Whether a locality other than this one waits: more wait than this one alone. Counting was quicker than a search.
     #[inline]
     fn another_waits(&self, locality: u8) -> bool {
-        (0..LOCALITIES).any(|y| self.waiting[y] && y != usize::from(locality))
+        let waiting = self.waiting.iter().filter(|waits| **waits).count();
+        waiting > usize::from(self.waiting[usize::from(locality)])
     }
 
     pub(super) fn write_access(
