@@ -1,3 +1,4 @@
 pub mod RuleLaws
+pub mod WaitingMask
 pub mod Agreement
 pub mod Cases

@@ -2,7 +2,7 @@
 use mathlib.Core.Path.{_≡_, sym, ap, _∙_}
 use mathlib.Core.Bool.{Bool, true, false, cond}
 use mathlib.Core.List.{List}
-use Prim.Native.Nat.{ℕ, zero, suc, _+_, _-_, _<_, _≤_}
+use Prim.Native.Nat.{ℕ, zero, suc, _+_, _<_, _≤_}
 use native.Mathlib.Omega.{arith}
 use lib.ListN.{getD}
 use lib.Dec.{eqb}
@@ -57,19 +57,6 @@ pub counts-case : (o : Owner) (y : Locality) → o ≡ Held y → eqb (y .0) 4 �
 counts-case o y e = rw e
 
 -- ---- handover
-
-walk-step : (w : List Bool) (n : ℕ) → 0 < n → highestBelow n w ≡ cond (getD w (n - 1) false) (Held (locality (n - 1))) (highestBelow (n - 1) w)
-walk-step w n l = let e : n ≡ suc (n - 1) = omega arith in ap (λ (k : ℕ). highestBelow k w) e
-
-pub walk-found : (w : List Bool) (n : ℕ) → 0 < n → getD w (n - 1) false ≡ true → nextOwner w ≡ highestBelow n w → Held (locality (n - 1)) ≡ nextOwner w
-walk-found w n l t e = sym (e ∙ walk-step w n l ∙ simp t)
-
-pub walk-on : (w : List Bool) (n : ℕ) → 0 < n → getD w (n - 1) false ≡ false → nextOwner w ≡ highestBelow n w → nextOwner w ≡ highestBelow (n - 1) w
-walk-on w n l t e = e ∙ walk-step w n l ∙ simp t
-
-pub walk-end : (w : List Bool) (n : ℕ) → n ≤ 0 → nextOwner w ≡ highestBelow n w → Nobody ≡ nextOwner w
-walk-end w zero l e = sym e
-walk-end w (suc n) l e = absurd (omega arith)
 
 below : (w : List Bool) (n : ℕ) (y : Locality) → highestBelow n w ≡ Held y → y .0 < n
 below w zero y e = let z : _≡_ {A = ℕ} 0 1 = cc in omega arith

@@ -5,25 +5,26 @@ ghost use Rattle.arbiter.specs.State.{localities};
 ghost use Rattle.arbiter.specs.Rules.{nextOwner, serve as serveSpec, handover as handoverSpec, startCounts, hashStart};
 use crate::Arbiter;
 use crate::Change;
-use crate::LOCALITIES;
 use crate::Locality;
 use crate::Owner;
 use crate::with_active;
+use bits::flag_at;
 use reg_layout::HASH_LOCALITY;
 
-// The highest locality that waits.
+// The highest locality that waits. Flag k stands at bit k of the mask, whose highest set bit is number 7 less the zeros above it.
 pub fn next_owner(waiting: [bool; 5]) -> Owner
     ensures { λ r. ⌜ r ≡ nextOwner waiting ⌝ }
 {
-    let mut n = LOCALITIES;
-    while 0 < n {
-        n -= 1;
-        let i = n as usize;
-        if waiting[i] {
-            return Owner::Held(Locality(n));
-        }
+    let mask = flag_at(waiting[0], 0)
+        + flag_at(waiting[1], 1)
+        + flag_at(waiting[2], 2)
+        + flag_at(waiting[3], 3)
+        + flag_at(waiting[4], 4);
+    if mask == 0 {
+        return Owner::Nobody;
     }
-    Owner::Nobody
+    let zeros = u8::leading_zeros(mask);
+    Owner::Held(Locality((7 - zeros) as u8))
 }
 
 pub fn serve(s: Arbiter, y: Locality) -> Arbiter
