@@ -1,12 +1,14 @@
 //! What the lists reached: calls by kind and refusal, and the events that must not be missing.
 
 mod access;
+mod handovers;
 
 use crate::offsets;
 use crate::records::CLAUSES;
 use crate::state::State;
 use crate::turn::{Turn, KINDS, REFUSALS};
 use access::AccessReads;
+use handovers::{By, Handovers};
 use yardstick::book::{bound, Served};
 use yardstick::call::Call;
 use yardstick::device::MOST_HASH_BYTES;
@@ -117,6 +119,8 @@ pub struct Coverage {
     bytes: Vec<[u64; 2]>,
     /// Accepted reads of ACCESS in each page, by who waits.
     access: AccessReads,
+    /// Handovers, by who waits.
+    handovers: Handovers,
 }
 
 fn number(waiting: &[bool; 5]) -> usize {
@@ -199,6 +203,10 @@ impl Coverage {
             && byte & 0x3a == 0x20
             && !(before.open && x == 4);
         let served = number(&after.waiting) < number(&before.waiting);
+        if closed || released {
+            let by = if closed { By::HashEnd } else { By::Release };
+            self.handovers.count(before, by);
+        }
         self.event(
             Event::WaitBegun,
             number(&after.waiting) > number(&before.waiting),
@@ -283,6 +291,7 @@ impl Coverage {
             least(0).unwrap_or(0),
             least(1).unwrap_or(0)
         );
+        self.handovers.print();
         self.access.print();
         println!("shape rule, records that just break a clause and just meet it:");
         for (clause, [broken, met]) in CLAUSES.iter().zip(self.clauses) {
@@ -315,6 +324,7 @@ impl Coverage {
             }
         }
         missing.extend(self.access.missing());
+        missing.extend(self.handovers.missing());
         if self.most_waiting < 4 {
             missing.push("four localities waiting at once".to_string());
         }
