@@ -1,4 +1,5 @@
--- The cases of the arbitration rules over plain values: for each return of the code, that its value is the rule's. Assumes nothing.
+-- The cases of the arbitration rules over plain values: for each return of the code but those of `next_owner`, that its value is the rule's.
+-- Assumes nothing.
 use mathlib.Core.Path.{_≡_, sym, ap, _∙_}
 use mathlib.Core.Bool.{Bool, true, false, cond}
 use mathlib.Core.List.{List}

@@ -11,7 +11,7 @@ use crate::with_active;
 use bits::flag_at;
 use reg_layout::HASH_LOCALITY;
 
-// The highest locality that waits. Flag k stands at bit k of the mask, whose highest set bit is number 7 less the zeros above it.
+// The highest locality that waits, or nobody. Flag k stands at bit k of the mask, whose highest set bit is number 7 less the zeros above it.
 pub fn next_owner(waiting: [bool; 5]) -> Owner
     ensures { λ r. ⌜ r ≡ nextOwner waiting ⌝ }
 {

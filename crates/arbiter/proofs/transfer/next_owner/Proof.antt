@@ -1,4 +1,5 @@
--- `next_owner` meets its contract: its mask is the one of `WaitingMask`. Assumes nothing.
+-- `next_owner` meets its contract: its mask is the one of `WaitingMask`. Five rows for the flags: its place in the array, its bit's number, and
+-- that the sum so far is a byte. Assumes nothing.
 use borrow.Author.Needs.{needs}
 use Rattle.arbiter.proofs.WaitingMask.{nobody-waits, zeros-bounded, highest-waits}
 use Rattle.arbiter.proofs.transfer.next_owner.Statement.{statement}
