@@ -23,6 +23,7 @@ use Rattle.arbiter_model.specs.Model.{Model, Holder, accessEvent, isAccess, wri
 use Rattle.arbiter_model.specs.Waits.{run}
 use Rattle.arbiter_model.proofs.ModelLaws.{access-elim}
 use Rattle.arbiter_model.proofs.Invariant.{Sound, sound-fresh}
+use Rattle.record.specs.Limits.{fifoLeast, fifoGreatest}
 use Rattle.record.specs.Record.{freshDevice}
 use Rattle.record.specs.declared.Device.{Device}
 use Rattle.record.specs.declared.Interrupts.{Interrupts}
@@ -168,7 +169,7 @@ module _ {c : ℕ} {q : Mail} {p : Phase} {n : ℕ} {w r : List ℕ} (b : Boxed 
   idle-left : Boxed c (mail idle (q .run)) Idle n (clearFifo w) (clearFifo r)
   idle-left = rw (b .number) (cleared (q .run))
 
-  module _ (l : 1024 ≤ c) (v : ℕ) where
+  module _ (l : fifoLeast ≤ c) (v : ℕ) where
     -- what a command leaves
     abbrev Commands : Mail → Commanded → Type 0
     Commands q′ k = Boxed c q′ (k .phase) (k .run) (updateWriteFifo (k .fifos) v w) (updateReadFifo (k .fifos) badSize r)
@@ -195,7 +196,7 @@ fetch-boxed {c} {q} {p} {n} {w} {r} b = rw (b .phase, b .number, b .writeFifo, b
         on true e = record { phase = refl; number = refl; writeFifo = refl; readFifo = refl; fits = (f .0, f .1, omega (arith, ltb-true k (length a) e)) }
         on false e = record { phase = refl; number = refl; writeFifo = refl; readFifo = refl; fits = f }
 
-module _ (c : ℕ) (l : 1024 ≤ c) (m : Model) (q : Mail) (d : Device) (w r : List ℕ) (o v : ℕ) (a : Agrees m (d .control .arbiter) (d .launch .sequence)) (b : Has c q d w r) where
+module _ (c : ℕ) (l : fifoLeast ≤ c) (m : Model) (q : Mail) (d : Device) (w r : List ℕ) (o v : ℕ) (a : Agrees m (d .control .arbiter) (d .launch .sequence)) (b : Has c q d w r) where
   abbrev Left : Device → List ℕ → List ℕ → Type 0
   Left d′ w′ r′ = Has c (mailWritten c m q o v) d′ w′ r′
 
@@ -240,11 +241,11 @@ fresh-boxed : {c : ℕ} {q : Mail} {p : Phase} {n : ℕ} {w r : List ℕ} → Bo
 unfolding freshDevice
 fresh-boxed b established identity k = cleared b k
 
-pub lengths-allowed : {c : ℕ} (w r : List ℕ) → 1024 ≤ c → c ≤ 4096 → length w ≡ c → length r ≡ c → lengthsAllowed (lengthsOf w r) ≡ true
+pub lengths-allowed : {c : ℕ} (w r : List ℕ) → fifoLeast ≤ c → c ≤ fifoGreatest → length w ≡ c → length r ≡ c → lengthsAllowed (lengthsOf w r) ≡ true
 unfolding lengthsAllowed
-lengths-allowed {c} w r l g e f = rw (e, f, le-leb 1024 c l, le-leb c 4096 g, eq-eqb c c refl) refl
+lengths-allowed {c} w r l g e f = rw (e, f, le-leb fifoLeast c l, le-leb c fifoGreatest g, eq-eqb c c refl) refl
 
-module _ (c : ℕ) (l : 1024 ≤ c) (g : c ≤ 4096) (m : Model) (q : Mail) (s : State) (a : Keeps m (s .device)) (b : Has c q (s .device) (s .writeFifo) (s .readFifo)) where
+module _ (c : ℕ) (l : fifoLeast ≤ c) (g : c ≤ fifoGreatest) (m : Model) (q : Mail) (s : State) (a : Keeps m (s .device)) (b : Has c q (s .device) (s .writeFifo) (s .readFifo)) where
   powered : {established : Bool} {identity : List ℕ} {t : Result} → PowerCase established identity (s .writeFifo) (s .readFifo) t → Has c (mail idle 0) (t .device) (t .writeFifo) (t .readFifo)
   powered (power.refused e) = absurd (true≢false (sym (lengths-allowed (s .writeFifo) (s .readFifo) l g (write-length b) (read-length b)) ∙ e))
   powered (power.powered e) = fresh-boxed b _ _ 0
@@ -289,8 +290,8 @@ module _ (c : ℕ) (l : 1024 ≤ c) (g : c ≤ 4096) (m : Model) (q : Mail) (s :
 
 -- what holds after each call: book and mailbox are kept, with FIFOs of c bytes
 pub record Kept (c : ℕ) (m : Model) (q : Mail) (s : State) : Type 0 where
-  pub least : 1024 ≤ c
-  pub greatest : c ≤ 4096
+  pub least : fifoLeast ≤ c
+  pub greatest : c ≤ fifoGreatest
   pub book : Keeps m (s .device)
   pub sound : Sound m
   pub boxed : Has c q (s .device) (s .writeFifo) (s .readFifo)

@@ -8,6 +8,7 @@ use lib.ListN.{length, length-append}
 use lib.Dec.{eqb, leb, ltb}
 use borrow.Author.Tests.{ltb-true, ltb-false, leb-true}
 use Rattle.bits.specs.Bits.{bit, isSet}
+use Rattle.record.specs.Limits.{fifoLeast}
 use Rattle.record.specs.declared.Phase.{Phase}
 use Rattle.record.specs.declared.Phase.the-variants.{Idle, Reception, Execution}
 use Rattle.bits.proofs.TestLaws.{both-true, neither}
@@ -108,7 +109,7 @@ whole n s c e f = (leb-true 10 s (k .0), by (ltb n s) refl (ltb n c) refl (neith
     by false i u j z = ltb-false n s i
 
 -- one more byte fits where more is expected
-room : (n s c : ℕ) → 1024 ≤ c → (ltb n 6 || ltb n s && ltb n c) ≡ true → n < c
+room : (n s c : ℕ) → fifoLeast ≤ c → (ltb n 6 || ltb n s && ltb n c) ≡ true → n < c
 room n s c l e = by (ltb n 6) refl e
   where
     by : (t : Bool) → ltb n 6 ≡ t → (t || ltb n s && ltb n c) ≡ true → n < c
@@ -117,7 +118,7 @@ room n s c l e = by (ltb n 6) refl e
 
 -- ---- each order
 
-module _ (c : ℕ) (l : 1024 ≤ c) where
+module _ (c : ℕ) (l : fifoLeast ≤ c) where
   -- what a command, given box b and byte v, leaves is q
   abbrev Leaves : Mail → Commanded → ℕ → Mailbox → Type 0
   Leaves q k v b = Boxed c q (k .phase) (k .run) (updateWriteFifo (k .fifos) v (padded c (commandOf b))) (updateReadFifo (k .fifos) badSize (padded c (answerOf b)))

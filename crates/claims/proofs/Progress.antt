@@ -26,7 +26,7 @@ use Rattle.arbiter_model.specs.Model.{Model, held, fresh}
 use Rattle.arbiter_model.proofs.ModelLaws.{not-free, held-same}
 use Rattle.arbiter_model.proofs.Invariant.{Sound}
 use Rattle.sha1.specs.Stream.{join}
-use Rattle.record.specs.Limits.{hashLimit}
+use Rattle.record.specs.Limits.{fifoLeast, fifoGreatest, hashLimit}
 use Rattle.record.specs.Record.{freshDevice}
 use Rattle.record.specs.declared.Device.{Device}
 use Rattle.record.specs.declared.Launch.{Launch}
@@ -351,10 +351,10 @@ module _ {c : ℕ} {m : Model} {q : Mail} (s : State) (h : Kept c m q s) (p : Pl
       by true e = sym (eqb-true (pcrRefusalOf (s .device) i) accepted e)
       by false e = refl
 
-  -- "6, then 5 where a record is asked": a record in shape for c is in shape for 4,096
+  -- "6, then 5 where a record is asked": a record in shape for c is in shape for the greatest C
   pcr-value : (i : ℕ) → pcrRefusalOf (s .device) i ≡ cond (leb i 23) 0 5
   unfolding pcrRefusal
-  pcr-value i = rw (shaped 4096 (h .greatest)) (by (leb i 23) refl)
+  pcr-value i = rw (shaped fifoGreatest (h .greatest)) (by (leb i 23) refl)
     where
       by : (t : Bool) → leb i 23 ≡ t → _≡_ {A = ℕ} (cond (leb pcrs i) 5 0) (cond t 0 5)
       by true e = rw (lt-leb pcrs i (omega (arith, leb-true i 23 e))) refl
@@ -521,7 +521,7 @@ unfolding after heard lastPowered
 all-halted d w r e [] = refl
 all-halted d w r e (k ∷ ks) = rw (halted-left (state d w r) e k) (all-halted (poweredBy (entryOf k (refusalOf k (state d w r))) d) w r e ks)
 
-refused-lengths : (w r : List ℕ) → lengthsAllowed (lengthsOf w r) ≡ false → (leb 1024 (length w) && leb (length w) 4096 && eqb (length w) (length r)) ≡ false
+refused-lengths : (w r : List ℕ) → lengthsAllowed (lengthsOf w r) ≡ false → (leb fifoLeast (length w) && leb (length w) fifoGreatest && eqb (length w) (length r)) ≡ false
 unfolding lengthsAllowed
 refused-lengths w r e = e
 

@@ -24,6 +24,7 @@ use Rattle.arbiter_model.specs.Model as model
 use Rattle.arbiter_model.specs.Model.{Model, held, Event, accessEvent, isAccess, writeEvent, put, highest, ignoresPage, fresh}
 use Rattle.arbiter_model.specs.Waits.{handsOver, run}
 use Rattle.arbiter_model.proofs.ModelLaws.{access-elim}
+use Rattle.record.specs.Limits.{fifoLeast}
 use Rattle.record.specs.Record.{freshDevice}
 use Rattle.record.specs.declared.Causes.{Causes}
 use Rattle.record.specs.declared.Control.{Control}
@@ -134,7 +135,7 @@ module _ {m : Model} {b : Arbiter} {q : Bool} (x : ℕ) (a : Agrees m b q) (h : 
 
 -- ---- what a write to STS or the FIFO raises
 
-module _ (c : ℕ) (l : 1024 ≤ c) where
+module _ (c : ℕ) (l : fifoLeast ≤ c) where
   abbrev sizeIn : Mailbox → ℕ
   sizeIn b = declaredSize (padded c (commandOf b))
 
@@ -271,7 +272,7 @@ record Still (m : Model) (w : ℕ → Bool) (e : Event) : Type 0 where
   changesNot : (handsOver m e && isSomebody (highest (m .waiting))) ≡ false
   establishesNot : establishes m e ≡ false
 
-module _ (c : ℕ) (l : 1024 ≤ c) (m : Model) (q : Mail) (g : Signals) (d : Device) (w r : List ℕ) (o v : ℕ) (a : Agrees m (d .control .arbiter) (d .launch .sequence))
+module _ (c : ℕ) (l : fifoLeast ≤ c) (m : Model) (q : Mail) (g : Signals) (d : Device) (w r : List ℕ) (o v : ℕ) (a : Agrees m (d .control .arbiter) (d .launch .sequence))
     (known : (y : ℕ) → m .active ≡ held y → y < 5) (x : Has c q d w r) (k : Signed g (d .control)) where
   abbrev Left : Control → Type 0
   Left k′ = Signed (signalsStep c m q g (written o v)) k′

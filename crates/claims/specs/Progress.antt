@@ -7,6 +7,7 @@ use mathlib.Core.List.{List, [], _∷_}
 use lib.ListN.{length}
 use lib.Dec.{eqb, leb}
 use Rattle.reg_layout.specs.Offsets.{within}
+use Rattle.record.specs.Limits.{fifoLeast, fifoGreatest}
 use Rattle.record.specs.Record.{freshDevice}
 use Rattle.record.specs.declared.Device.{Device}
 use Rattle.record_shape.specs.Shape.{viewOf, inShape}
@@ -36,8 +37,8 @@ refusalIn c d window = 0
 
 -- what holds of the state s after it was lent FIFOs of c bytes, and any calls
 pub record Works (c : ℕ) (s : State) : Type 0 where
-  pub least : 1024 ≤ c
-  pub greatest : c ≤ 4096
+  pub least : fifoLeast ≤ c
+  pub greatest : c ≤ fifoGreatest
   pub writeFifo : length (s .writeFifo) ≡ c
   pub readFifo : length (s .readFifo) ≡ c
   pub shaped : inShape (viewOf (s .device)) c ≡ true
@@ -77,7 +78,7 @@ lastPowered d (c ∷ cs) = lastPowered (poweredBy (entryOf (c .0) (c .1 .refusal
 -- s₀ was handed to the power-on; h is what was heard, s what is left
 pub record Halts (s₀ : State) (h : List (Call × Answer)) (s : State) : Type 0 where
   -- 2 is given for "a FIFO length outside 1,024..4,096, or the two differ", and for nothing else
-  pub lengths : (leb 1024 (length (s₀ .writeFifo)) && leb (length (s₀ .writeFifo)) 4096 && eqb (length (s₀ .writeFifo)) (length (s₀ .readFifo))) ≡ false
+  pub lengths : (leb fifoLeast (length (s₀ .writeFifo)) && leb (length (s₀ .writeFifo)) fifoGreatest && eqb (length (s₀ .writeFifo)) (length (s₀ .readFifo))) ≡ false
   -- "a refused power-on gives the fresh record and leaves the FIFOs alone"
   pub device : s .device ≡ lastPowered (s₀ .device) h
   pub writeFifo : s .writeFifo ≡ s₀ .writeFifo
