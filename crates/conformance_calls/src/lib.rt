@@ -7,6 +7,7 @@ use conformance_lines::line::front;
 use conformance_lines::line::place;
 use conformance_lines::line::times;
 use conformance_lines::results::show_answer;
+use conformance_lines::results::show_drain;
 use conformance_lines::results::show_fill;
 use conformance_lines::results::show_line;
 use conformance_lines::results::show_pcr;
@@ -21,6 +22,10 @@ use conformance_lines::results::show_window;
 use conformance_lines::results::show_write;
 use pcr::PcrIndex;
 use record::Device;
+use record::limits::FIFO_GREATEST;
+
+// The most bytes that a line lends, writes or reads: more than the greatest C, so that a length beyond it can be played.
+pub const LONGEST: usize = 9000;
 
 // What is left after many writes, and the bits of all their refusal numbers: 0 where each was accepted.
 struct Sent {
@@ -28,10 +33,17 @@ struct Sent {
     refusals: u8,
 }
 
-// A power-on as the sheet has it: not established.
+// What is left after many reads, the bits in which any byte differs from the one expected, and the bits of all their refusal numbers.
+struct Received {
+    device: Device,
+    differences: u8,
+    refusals: u8,
+}
+
+// A power-on as the sheet has it: not established. The refusal number expected is the line's byte.
 pub fn power_on(w: &mut [u8], r: &mut [u8], s: Step) -> Device {
     let o = tis::power_on(false, [0u8; 5], w, r);
-    show_power_on(s, o.refusal);
+    show_power_on(s, w.len(), o.refusal);
     o.device
 }
 
@@ -106,10 +118,10 @@ pub fn text(device: Device, w: &mut [u8], r: &mut [u8], s: Step) -> Device {
     t.device
 }
 
-// Free bytes from the line's byte on are written at the offset, as many as the line says, 1,025 at most.
+// Free bytes from the line's byte on are written at the offset, as many as the line says, LONGEST at most.
 pub fn fill(device: Device, w: &mut [u8], r: &mut [u8], s: Step) -> Device {
     let rest = s.rest;
-    let mut b = [0u8; 1025];
+    let mut b = [0u8; LONGEST];
     free_bytes(&mut b, s.byte);
     let part = front(&b, times(rest) as usize);
     let n = part.len() as u64;
@@ -125,6 +137,39 @@ pub fn read(device: Device, w: &[u8], r: &[u8], s: Step) -> Device {
     o.device
 }
 
+// The bytes read at the offset, one after the other, should be these.
+fn receive(device: Device, w: &[u8], r: &[u8], offset: u64, expected: &[u8]) -> Received {
+    let mut d = device;
+    let mut differences: u8 = 0;
+    let mut refusals: u8 = 0;
+    let mut i: usize = 0;
+    while i < expected.len() {
+        let v = expected[i];
+        i += 1;
+        let o = tis::read(d, w, r, offset);
+        d = o.device;
+        differences = differences | (o.byte ^ v);
+        refusals = refusals | o.refusal;
+    }
+    Received {
+        device: d,
+        differences,
+        refusals,
+    }
+}
+
+// Free bytes from the line's byte on are read at the offset, as many as the line says, LONGEST at most.
+pub fn drain(device: Device, w: &[u8], r: &[u8], s: Step) -> Device {
+    let rest = s.rest;
+    let mut b = [0u8; LONGEST];
+    free_bytes(&mut b, s.byte);
+    let part = front(&b, times(rest) as usize);
+    let n = part.len() as u64;
+    let t = receive(device, w, r, place(s), part);
+    show_drain(s, n, t.differences, t.refusals);
+    t.device
+}
+
 // The engine answers the run of the offset's low byte; the refusal number expected is the high byte.
 pub fn respond(device: Device, w: &mut [u8], r: &mut [u8], s: Step) -> Device {
     let rest = s.rest;
@@ -135,10 +180,10 @@ pub fn respond(device: Device, w: &mut [u8], r: &mut [u8], s: Step) -> Device {
     o.device
 }
 
-// So too, with free bytes from the line's byte on, as many as the line says, 1,025 at most.
+// So too, with free bytes from the line's byte on, as many as the line says, LONGEST at most.
 pub fn respond_free(device: Device, w: &mut [u8], r: &mut [u8], s: Step) -> Device {
     let rest = s.rest;
-    let mut b = [0u8; 1025];
+    let mut b = [0u8; LONGEST];
     free_bytes(&mut b, s.byte);
     let part = front(&b, times(rest) as usize);
     let o = tis::respond(device, w, r, s.low as u32, part);
@@ -146,9 +191,9 @@ pub fn respond_free(device: Device, w: &mut [u8], r: &mut [u8], s: Step) -> Devi
     o.device
 }
 
-// A window is never longer than 4,096 bytes; the digest of a longer one is left out.
+// A window is never longer than the greatest C; the digest of a longer one is left out.
 fn digest(part: &[u8]) -> [u8; 40] {
-    if part.len() > 4096 {
+    if part.len() > FIFO_GREATEST as usize {
         return [b'-'; 40];
     }
     sha1_text::hex(sha1::hash(part))

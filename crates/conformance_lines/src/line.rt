@@ -1,5 +1,5 @@
 // A line of the sheet: 22 characters that name the entry, a letter that says what is done, an offset, a byte, and up to 40 characters more.
-ghost use Prim.Native.Nat.{_<_};
+ghost use Prim.Native.Nat.{_<_, _≤_};
 
 pub struct Step {
     pub label: [u8; 22],
@@ -73,6 +73,16 @@ pub fn times(rest: [u8; 40]) -> u64
     let b = byte(rest[2], rest[3]);
     let c = byte(rest[4], rest[5]);
     wide(a) * 65536 + wide(b) * 256 + wide(c)
+}
+
+// The lesser of the two.
+pub fn least(a: usize, b: usize) -> usize
+    ensures { λ r. ⌜ (r ≤ a) × (r ≤ b) ⌝ }
+{
+    if a < b {
+        return a;
+    }
+    b
 }
 
 // The first n bytes, or all if there are fewer.

@@ -21,12 +21,6 @@ fn cycle(what: &[u8], s: Step) {
     hex(s.low);
 }
 
-pub fn show_power_on(s: Step, refusal: u8) {
-    named(s);
-    say(b"power-on                      refusal   ");
-    compare(0, refusal, true);
-}
-
 pub fn show_reset(s: Step, refusal: u8) {
     named(s);
     say(b"reset                         refusal   ");
@@ -38,6 +32,15 @@ fn count(n: u64) {
     hex((n / 65536 % 256) as u8);
     hex((n / 256 % 256) as u8);
     hex((n % 256) as u8);
+}
+
+// A power-on with FIFOs of so many bytes.
+pub fn show_power_on(s: Step, length: usize, refusal: u8) {
+    named(s);
+    say(b"power-on, C = ");
+    count(length as u64);
+    say(b"          refusal   ");
+    compare(s.byte, refusal, true);
 }
 
 // n writes from the line's byte on; `how` says whether of that byte or of those after it too.
@@ -78,6 +81,20 @@ pub fn show_read(s: Step, got: u8, refusal: u8) {
     cycle(b"read ", s);
     say(b"                     byte      ");
     compare_both(s, got, refusal);
+}
+
+// n reads that should give the line's byte and those after it: the bits in which any of them differs, and of all their refusal numbers.
+pub fn show_drain(s: Step, n: u64, differences: u8, refusals: u8) {
+    let rest = s.rest;
+    cycle(b"read ", s);
+    say(b", ");
+    hex(s.byte);
+    say(b".. ");
+    count(n);
+    say(b"        differ    ");
+    let same = pair(0, differences);
+    say(b"  refusals");
+    compare(byte(rest[7], rest[8]), refusals, same);
 }
 
 // Two answers as a byte: 2 for the first, 1 for the second.
