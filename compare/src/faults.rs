@@ -26,14 +26,14 @@ fn streams() -> Vec<(Vec<u8>, &'static str)> {
             vec![b'P', 2, 0, 0, 0, 0, 0],
             "a flag that is neither 0 nor 1",
         ),
-        (vec![b'A', 0, 0, 0, 0, 0x01, 0x20], "a length above 8192"),
+        (vec![b'A', 0, 0, 0, 0, 0x29, 0x23], "a length above 9000"),
         (vec![b'A', 0, 0, 0, 0, 2, 0, 7], cut),
         (load(19, 2, 0, 0), "a flag that is neither 0 nor 1"),
         (load(21, 5, 0, 0), "a phase above 4"),
-        (load(0, 0, 8193, 0), "a length above 8192"),
-        (load(0, 0, 0, 8193), "a length above 8192"),
+        (load(0, 0, 9001, 0), "a length above 9000"),
+        (load(0, 0, 0, 9001), "a length above 9000"),
         (load(0, 0, 1, 0), cut),
-        (load(0, 0, 0, 8192), cut),
+        (load(0, 0, 0, 9000), cut),
     ];
     let whole: [&[u8]; 6] = [
         b"P\0\0\0\0\0\0",

@@ -8,7 +8,7 @@ use replay_form::fields::put_u16;
 use replay_record::put_device;
 
 fn put_fifos(out: &mut [u8], w: &[u8], r: &[u8]) -> usize
-    ensures { λ n. ⌜ n ≤ 16388 ⌝ }
+    ensures { λ n. ⌜ n ≤ 18004 ⌝ }
 {
     let n = w.len();
     let m = r.len();

@@ -25,7 +25,7 @@ pub fn say(fault: Fault, number: u64) {
         Fault::Nothing => {}
         Fault::Cut => tell(number, b": cut short\n"),
         Fault::Unknown => tell(number, b": unknown opcode\n"),
-        Fault::TooLong => tell(number, b": a length above 8192\n"),
+        Fault::TooLong => tell(number, b": a length above 9000\n"),
         Fault::Flag => tell(number, b": a flag that is neither 0 nor 1\n"),
         Fault::Phase => tell(number, b": a phase above 4\n"),
         Fault::Input => tell(number, b": standard input cannot be read\n"),

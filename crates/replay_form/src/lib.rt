@@ -4,8 +4,8 @@ pub mod fields;
 pub mod frame;
 pub mod tape;
 
-// The greatest length of an answer and of a FIFO.
-pub const LONGEST: usize = 8192;
+// The greatest length of an answer and of a FIFO: above the greatest C, so that lengths beyond it are played too.
+pub const LONGEST: usize = 9000;
 
 // The bytes of a record's image.
 pub const IMAGE: usize = 603;

@@ -9,7 +9,7 @@ use libc::STDOUT_FILENO;
 pub const ROOM: usize = 65536;
 
 // More than any call and any outcome takes.
-const MARGIN: usize = 17000;
+const MARGIN: usize = 19000;
 
 // The bytes of the input that are not yet played, whether the input has ended, the bytes of the output that are not yet written, and whether
 // a read or a write failed.
