@@ -2,6 +2,7 @@
 
 mod access;
 mod handovers;
+mod limits;
 
 use crate::offsets;
 use crate::records::CLAUSES;
@@ -9,6 +10,7 @@ use crate::state::State;
 use crate::turn::{Turn, KINDS, REFUSALS};
 use access::AccessReads;
 use handovers::{By, Handovers};
+use limits::{LentCall, Limits};
 use yardstick::book::{bound, Served};
 use yardstick::call::Call;
 use yardstick::device::MOST_HASH_BYTES;
@@ -121,6 +123,8 @@ pub struct Coverage {
     access: AccessReads,
     /// Handovers, by who waits.
     handovers: Handovers,
+    /// FIFO lengths and burstCount around the limits.
+    limits: Limits,
 }
 
 fn number(waiting: &[bool; 5]) -> usize {
@@ -146,6 +150,7 @@ impl Coverage {
         let device = &after.device;
         self.event(Event::OddAndOutOfShape, refusal == 2 && !before.in_shape);
         self.count_byte(turn, refusal);
+        self.count_lent(turn, refusal, after);
         self.most_waiting = self.most_waiting.max(number(&device.waiting));
         match turn {
             Turn::Load { note, state } => {
@@ -163,8 +168,14 @@ impl Coverage {
                 self.event(Event::Answer, refusal == 0);
                 self.event(Event::StaleAnswer, refusal == 3 && executing);
             }
+            Turn::Made(Call::PcrValue { pcr }) if *pcr < 24 => {
+                self.limits.count_question(before, refusal);
+            }
             Turn::Made(Call::InterruptLine) => self.event(Event::Line, outcome[0] == 1),
-            Turn::Made(Call::Read { offset }) if refusal == 0 => self.access.count(before, *offset),
+            Turn::Made(Call::Read { offset }) if refusal == 0 => {
+                self.access.count(before, *offset);
+                self.limits.count_read(before, *offset, after.read.len());
+            }
             Turn::Made(Call::Write { offset, byte }) if refusal == 0 => {
                 self.count_holding(before, device, *offset, *byte);
                 self.count_command(before, after, *offset, *byte);
@@ -177,6 +188,25 @@ impl Coverage {
     pub fn count_wait(&mut self, served: Option<Served>) {
         let last = served.is_some_and(|wait| wait.k > 0 && wait.handovers == bound(wait.x, wait.k));
         self.event(Event::LongestWait, last);
+    }
+
+    fn count_lent(&mut self, turn: &Turn, refusal: u8, state: &State) {
+        if let Turn::Made(
+            Call::PowerOn { .. }
+            | Call::Reset
+            | Call::Read { .. }
+            | Call::Write { .. }
+            | Call::Respond { .. }
+            | Call::Window,
+        ) = turn
+        {
+            let (write, read) = (state.write.len(), state.read.len());
+            self.limits.count_lengths(&LentCall {
+                write,
+                read,
+                refusal,
+            });
+        }
     }
 
     fn count_byte(&mut self, turn: &Turn, refusal: u8) {
@@ -292,6 +322,7 @@ impl Coverage {
             least(1).unwrap_or(0)
         );
         self.handovers.print();
+        self.limits.print();
         self.access.print();
         println!("shape rule, records that just break a clause and just meet it:");
         for (clause, [broken, met]) in CLAUSES.iter().zip(self.clauses) {
@@ -325,6 +356,7 @@ impl Coverage {
         }
         missing.extend(self.access.missing());
         missing.extend(self.handovers.missing());
+        missing.extend(self.limits.missing());
         if self.most_waiting < 4 {
             missing.push("four localities waiting at once".to_string());
         }

@@ -135,7 +135,8 @@ pub fn busy_phase(random: &Random) -> Phase {
 }
 
 fn broken_high(random: &Random, c: u16) -> u16 {
-    random.pick(&[c + 1, c + 1, c + 64, GREATEST_C as u16 + 1, u16::MAX])
+    let greatest = GREATEST_C as u16;
+    random.pick(&[c + 1, c + 512, greatest.max(c + 1), greatest + 1, u16::MAX])
 }
 
 /// A record that just meets the clause or just breaks it, and no other, with FIFOs of `c` bytes.

@@ -23,8 +23,12 @@ const BYTES: [u8; 14] = [
     0x02, 0x02, 0x20, 0x20, 0x08, 0x10, 0x40, 0x00, 0x0a, 0x22, 0x60, 0x80, 0x85, 0xff,
 ];
 
-const LENGTHS: [usize; 14] = [
-    0, 1, 9, 10, 1022, 1023, 1024, 1025, 2048, 4095, 4096, 4097, 8191, 8192,
+/// The greatest length that `replay` takes (docs/REPLAY.md): above the greatest C, so that lengths beyond it are compared too.
+pub const LONGEST: usize = 9000;
+
+const LENGTHS: [usize; 18] = [
+    0, 1, 9, 10, 511, 512, 1022, 1023, 1024, 1025, 2048, 4096, 4097, 8191, 8192, 8193, 8193,
+    LONGEST,
 ];
 
 pub fn at(x: u8, within: u64) -> u64 {
@@ -80,8 +84,8 @@ impl Scene<'_> {
     /// Mostly the least C, which is the fastest to fill.
     pub fn c(&mut self) -> usize {
         match self.random.below(8) {
-            0 => 4096,
-            1 => self.random.within(1024, 4096) as usize,
+            0 => self.random.pick(&[4096, 4097, 8191, 8192, 8192]),
+            1 => self.random.within(1024, 8192) as usize,
             2 => 1025,
             _ => 1024,
         }
@@ -121,7 +125,7 @@ impl Scene<'_> {
 
     pub fn any_length(&mut self) -> usize {
         match self.random.below(4) {
-            0 => self.random.below(8193) as usize,
+            0 => self.random.within(0, LONGEST as u64) as usize,
             _ => self.random.pick(&LENGTHS),
         }
     }
@@ -131,10 +135,10 @@ impl Scene<'_> {
         let length = match self.random.below(8) {
             0 => self.any_length(),
             1 => c,
-            2 => (c + 1).min(8192),
+            2 => (c + 1).min(LONGEST),
             3 => 9,
             4 => 10,
-            5 => self.random.pick(&[63, 64, 65, 128]),
+            5 => self.random.pick(&[511, 512, 513, 1024]),
             _ => self.random.within(10, 40) as usize,
         };
         self.random.bytes(length)

@@ -1,5 +1,6 @@
 //! The scenes: seeded lists of calls, biased to where faults hide.
 
+mod bursts;
 mod commands;
 mod holding;
 mod launching;
@@ -27,7 +28,7 @@ const HASH_START: u64 = 0x4028;
 /// One list of calls that begins with a load.
 pub fn list(random: &Random, number: u64) -> Vec<Turn> {
     let mut scene = Scene::new(random);
-    match number % 14 {
+    match number % 15 {
         0 => scene.holders(),
         1 | 8 => scene.commands(),
         2 => scene.launches(),
@@ -38,6 +39,7 @@ pub fn list(random: &Random, number: u64) -> Vec<Turn> {
         7 | 10 => scene.runs(),
         11 => scene.longest_waits(),
         12 => scene.every_offset(),
+        13 => scene.bursts(),
         _ => scene.anything(),
     }
     scene.turns

@@ -20,8 +20,8 @@ pub const PCRS: usize = 24;
 /// Bytes in a PCR.
 pub const PCR_BYTES: usize = 20;
 
-/// Least and greatest length of each FIFO.
-pub const FIFO_LENGTHS: std::ops::RangeInclusive<usize> = 1024..=4096;
+/// Least and greatest length C of each FIFO, the greatest as request W6 of document 02 has it.
+pub const FIFO_LENGTHS: std::ops::RangeInclusive<usize> = 1024..=8192;
 
 /// The greatest allowed FIFO length, taken for C where no FIFO is lent.
 pub const GREATEST_C: usize = *FIFO_LENGTHS.end();

@@ -18,7 +18,7 @@ fn busy() -> Bench {
 
 #[test]
 fn power_on_gives_the_fresh_record() {
-    let (mut w, mut r) = (vec![1; 4096], vec![2; 4096]);
+    let (mut w, mut r) = (vec![1; 8192], vec![2; 8192]);
     let (refusal, device) = Device::power_on(true, ID, &mut w, &mut r);
     assert_eq!(refusal, 0);
     assert!(w.iter().chain(&r).all(|byte| *byte == 0));
@@ -210,6 +210,23 @@ fn seizure_marks_the_loser_and_is_no_handover() {
     expected.phase = Phase::Idle;
     assert_eq!(bench.device, expected);
     assert!(bench.fifos_are_empty());
+}
+
+/// "Emptied" is every byte, also where the FIFOs are the longest allowed.
+#[test]
+fn the_longest_fifos_are_emptied_to_the_last_byte() {
+    let drops: [fn(&mut Bench) -> u8; 4] = [
+        |bench| bench.write(0x1000, 0x20),
+        |bench| bench.write(0x3000, 0x08),
+        |bench| bench.write(0x1018, 0x40),
+        |bench| bench.reset(),
+    ];
+    for drop_command in drops {
+        let mut bench = busy();
+        (bench.w, bench.r) = (vec![0x77; 8192], vec![0x88; 8192]);
+        assert_eq!(drop_command(&mut bench), 0);
+        assert!(bench.fifos_are_empty());
+    }
 }
 
 #[test]

@@ -1,4 +1,4 @@
-//! The bench sheet of document 01, P1 to P12 and the lines below them, with P3 as request W2 of document 02 has it.
+//! The bench sheet of document 01, P1 to P12 and the lines below them; P3 and P7 as W2 and W6 of document 02 have them.
 
 mod common;
 
@@ -26,7 +26,8 @@ fn p7_ready() {
     let mut bench = Bench::fresh(1024);
     bench.put(0x0000, 0x02);
     bench.put(0x0018, 0x40);
-    assert_eq!((bench.get(0x0018), bench.get(0x0019)), (0xc0, 0x40));
+    let sts = [0x0018, 0x0019, 0x001a].map(|offset| bench.get(offset));
+    assert_eq!(sts, [0xc0, 0x00, 0x02]);
 }
 
 #[test]
@@ -82,6 +83,7 @@ fn p10_size_at_and_above_the_fifo() {
     assert_eq!(bench.r[9], 0x19);
 }
 
+/// "P11 keeps its values, since C binds there" (W6).
 #[test]
 fn p11_burst_near_the_end() {
     let mut bench = Bench::ready();

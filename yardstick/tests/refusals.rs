@@ -5,14 +5,15 @@ mod common;
 use common::{Bench, ID};
 use yardstick::{Device, Phase};
 
-const BAD_LENGTHS: [(usize, usize); 10] = [
+const BAD_LENGTHS: [(usize, usize); 11] = [
     (0, 0),
     (1, 1),
     (1023, 1023),
-    (4097, 4097),
+    (8193, 8193),
     (1024, 1025),
     (1025, 1024),
-    (4096, 4097),
+    (8192, 8193),
+    (8191, 8192),
     (0, 1024),
     (1024, 0),
     (70_000, 70_000),
@@ -59,7 +60,7 @@ fn refused_power_on_gives_the_fresh_record_and_leaves_the_fifos() {
 
 #[test]
 fn odd_lengths_within_the_limits_are_taken() {
-    for c in [1024, 1025, 1999, 2048, 4095, 4096] {
+    for c in [1024, 1025, 1999, 2048, 4096, 4097, 6000, 8191, 8192] {
         let mut bench = Bench::fresh(c);
         assert!(bench.fifos_are_empty());
         assert_eq!(bench.get(0x0000), 0x81);
@@ -135,7 +136,7 @@ fn engine_answers_out_of_turn() {
 fn engine_answers_of_wrong_length() {
     let mut bench = Bench::executing();
     let before = bench.clone();
-    for length in [0, 1, 9, 1025, 5000, 70_000] {
+    for length in [0, 1, 9, 1025, 4097, 8192, 8193, 70_000] {
         assert_eq!(bench.respond(1, &vec![1; length]), 4);
     }
     assert_eq!(bench, before);

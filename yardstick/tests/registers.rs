@@ -43,7 +43,8 @@ fn sts_and_fifo_answer_the_active_locality_only() {
             }
         }
         assert_eq!(bench.get(at(active, 0x018)), 0xc0);
-        assert_eq!(bench.get(at(active, 0x01a)), 0x00);
+        assert_eq!(bench.get(at(active, 0x019)), 0x00);
+        assert_eq!(bench.get(at(active, 0x01a)), 0x02);
         assert_eq!(bench.get(at(active, 0x01b)), 0xff);
     }
 }

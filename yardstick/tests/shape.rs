@@ -123,7 +123,7 @@ fn phases_need_a_holder_and_no_open_sequence() {
     }
 }
 
-/// A count reaches from `least` to C and no further; where no FIFO is lent C is 4,096.
+/// A count reaches from `least` to C and no further; where no FIFO is lent C is 8,192.
 #[track_caller]
 fn reaches_from_to_c(least: u16, phase: fn(u16) -> Phase) {
     let at = |count: u16, c: usize| verdicts(&in_phase(phase(count)), c);
@@ -134,7 +134,12 @@ fn reaches_from_to_c(least: u16, phase: fn(u16) -> Phase) {
     assert_eq!(at(1025, 1024), (false, true));
     assert_eq!(at(1025, 1025), (true, true));
     assert_eq!(at(4096, 4096), (true, true));
-    assert_eq!(at(4097, 4096), (false, false));
+    assert_eq!(at(4097, 4096), (false, true));
+    assert_eq!(at(4097, 4097), (true, true));
+    assert_eq!(at(8192, 8191), (false, true));
+    assert_eq!(at(8192, 8192), (true, true));
+    assert_eq!(at(8193, 8192), (false, false));
+    assert_eq!(at(8193, 1024), (false, false));
     assert_eq!(at(u16::MAX, 1024), (false, false));
 }
 

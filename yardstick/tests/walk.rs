@@ -44,6 +44,11 @@ const BYTES: [u8; 12] = [
     0x02, 0x02, 0x02, 0x20, 0x20, 0x08, 0x10, 0x40, 0x40, 0x00, 0x0a, 0xff,
 ];
 
+/// Sizes of commands and answers around the header, the burst and each C that is lent.
+const SIZES: [usize; 16] = [
+    0, 9, 10, 11, 64, 511, 512, 513, 1024, 1025, 4096, 4097, 6000, 8191, 8192, 8193,
+];
+
 fn any_offset(dice: &mut Dice) -> u64 {
     match dice.below(50) {
         0 => dice.roll(),
@@ -59,6 +64,20 @@ fn any_byte(dice: &mut Dice) -> u8 {
     }
 }
 
+/// An engine answer, mostly to the run under way.
+fn any_respond(dice: &mut Dice, run: u32, answer: &[u8]) -> Call {
+    let length = dice.pick(&SIZES);
+    let run = if dice.below(4) == 0 {
+        dice.roll() as u32
+    } else {
+        run
+    };
+    Call::Respond {
+        run,
+        answer: answer[..length].to_vec(),
+    }
+}
+
 fn any_call(dice: &mut Dice, run: u32, answer: &[u8]) -> Call {
     match dice.below(1000) {
         0 => Call::PowerOn {
@@ -69,18 +88,7 @@ fn any_call(dice: &mut Dice, run: u32, answer: &[u8]) -> Call {
         4..=200 => Call::Read {
             offset: any_offset(dice),
         },
-        201..=250 => {
-            let length = dice.pick(&[0, 9, 10, 11, 64, 1024, 1025, 4096, 4097]);
-            let run = if dice.below(4) == 0 {
-                dice.roll() as u32
-            } else {
-                run
-            };
-            Call::Respond {
-                run,
-                answer: answer[..length].to_vec(),
-            }
-        }
+        201..=250 => any_respond(dice, run, answer),
         251..=270 => Call::PcrValue {
             pcr: dice.below(30) as u8,
         },
@@ -101,16 +109,35 @@ fn any_call(dice: &mut Dice, run: u32, answer: &[u8]) -> Call {
     }
 }
 
-/// The writes of a whole ten-byte command by the active locality, which dice would seldom roll.
-fn whole_command(active: u8) -> Vec<Call> {
+/// The writes of a whole command, which dice would seldom roll; most have ten bytes to be quick.
+fn whole_command(dice: &mut Dice, active: u8) -> Vec<Call> {
+    let size = match dice.below(10) {
+        0 => dice.pick(&SIZES) as u32,
+        _ => 10,
+    };
     let put = |within, byte| Call::Write {
         offset: common::at(active, within),
         byte,
     };
     let mut calls = vec![put(0x018, 0x40), put(0x018, 0x40)];
-    calls.extend(common::command(10).into_iter().map(|byte| put(0x025, byte)));
+    calls.extend(
+        common::command(size)
+            .into_iter()
+            .map(|byte| put(0x025, byte)),
+    );
     calls.push(put(0x018, 0x20));
     calls
+}
+
+/// A number for the phase, and its count of the bytes received or of the answer.
+fn place(phase: Phase) -> (usize, u16) {
+    match phase {
+        Phase::Idle => (0, 0),
+        Phase::Ready => (1, 0),
+        Phase::Reception(received) => (2, received),
+        Phase::Execution(received) => (3, received),
+        Phase::Completion(length, _) => (4, length),
+    }
 }
 
 /// Plays one call and holds it against the book and against what every call owes.
@@ -141,12 +168,13 @@ fn play_watched(bench: &mut Bench, watch: &mut Watch, call: &Call) -> u8 {
 
 #[test]
 fn device_keeps_to_the_book() {
-    let answer = [0x3c; 5000];
+    let answer = [0x3c; 8193];
     let mut refusals = [0u32; 8];
     let mut phases = [0u32; 5];
+    let mut longest = [0u16; 5];
     for seed in 1..=40 {
         let mut dice = Dice::seeded(seed);
-        let c = dice.pick(&[1024, 1025, 1024, 4096, 1023, 0]);
+        let c = dice.pick(&[1024, 1025, 1024, 4096, 4097, 8191, 8192, 8193, 1023, 0]);
         let mut bench = Bench {
             device: any_record(&mut dice),
             w: vec![1; c],
@@ -162,21 +190,18 @@ fn device_keeps_to_the_book() {
                 let refusal = play_watched(&mut bench, &mut watch, call);
                 refusals[usize::from(refusal)] += 1;
             }
-            phases[match bench.device.phase {
-                Phase::Idle => 0,
-                Phase::Ready => 1,
-                Phase::Reception(_) => 2,
-                Phase::Execution(_) => 3,
-                Phase::Completion(..) => 4,
-            }] += 1;
+            let (phase, count) = place(bench.device.phase);
+            phases[phase] += 1;
+            longest[phase] = longest[phase].max(count);
             calls = match bench.device.active {
-                Some(active) if dice.below(40) == 0 => whole_command(active),
+                Some(active) if dice.below(40) == 0 => whole_command(&mut dice, active),
                 _ => vec![any_call(&mut dice, bench.device.run, &answer)],
             };
         }
     }
     assert!(phases.iter().all(|count| *count > 100), "{phases:?}");
     assert!(refusals[..6].iter().all(|count| *count > 0), "{refusals:?}");
+    assert_eq!(longest[3..], [8192, 8192], "the greatest C is reached");
 }
 
 fn any_causes(dice: &mut Dice) -> Causes {
@@ -187,25 +212,16 @@ fn any_causes(dice: &mut Dice) -> Causes {
     }
 }
 
+/// Counts around each limit that a phase may meet.
+const COUNTS: [u16; 19] = [
+    0, 1, 5, 6, 9, 10, 511, 512, 513, 1023, 1024, 1025, 4095, 4096, 4097, 8191, 8192, 8193, 65_535,
+];
+
 fn any_count(dice: &mut Dice) -> u16 {
     match dice.below(3) {
         0 => dice.roll() as u16,
         1 => dice.below(1030) as u16,
-        _ => dice.pick(&[
-            0,
-            1,
-            5,
-            6,
-            9,
-            10,
-            1023,
-            1024,
-            1025,
-            4095,
-            4096,
-            4097,
-            u16::MAX,
-        ]),
+        _ => dice.pick(&COUNTS),
     }
 }
 
@@ -248,13 +264,15 @@ fn any_record(dice: &mut Dice) -> Device {
 
 #[test]
 fn no_record_makes_a_call_panic_and_refusals_leave_no_trace() {
-    let answer = [0x3c; 5000];
+    let answer = [0x3c; 8193];
     let mut dice = Dice::seeded(77);
     let mut seen = [0u32; 8];
     for _ in 0..60_000 {
-        let c = dice.pick(&[1024, 1024, 1024, 1025, 4096, 1023, 4097, 0]);
+        let c = dice.pick(&[
+            1024, 1024, 1024, 1025, 4096, 4097, 8191, 8192, 1023, 8193, 0,
+        ]);
         let other = if dice.below(20) == 0 {
-            dice.pick(&[0, 1024, 1025, 4096])
+            dice.pick(&[0, 1024, 1025, 4096, 8192])
         } else {
             c
         };

@@ -161,7 +161,9 @@ impl Scene<'_> {
             };
             write[2..6].copy_from_slice(&(size as u32).to_be_bytes());
             // Near the end, or where the room left is about the greatest burstCount; now and then beyond the declared size.
-            let short = self.random.pick(&[0, 0, 1, 2, 62, 63, 64, 65]);
+            let short = self
+                .random
+                .pick(&[0, 0, 1, 2, 255, 256, 257, 510, 511, 512, 513]);
             let most = size.min(c as u64);
             let n = match self.random.once_in(4) {
                 true => self.random.within(most, c as u64) as u16,

@@ -27,9 +27,8 @@ impl Scene<'_> {
             let note = (!odd).then_some((clause, met));
             self.call(Turn::Load { state, note });
             self.call(Call::Window);
-            if self.random.coin() {
-                self.call(Call::PcrValue { pcr: 17 });
-            }
+            // It is lent no FIFO, so its C is the greatest.
+            self.call(Call::PcrValue { pcr: 17 });
             for _ in 0..self.random.within(2, 10) {
                 self.any_call();
             }

@@ -77,7 +77,7 @@ lastPowered d (c ∷ cs) = lastPowered (poweredBy (entryOf (c .0) (c .1 .refusal
 
 -- s₀ was handed to the power-on; h is what was heard, s what is left
 pub record Halts (s₀ : State) (h : List (Call × Answer)) (s : State) : Type 0 where
-  -- 2 is given for "a FIFO length outside 1,024..4,096, or the two differ", and for nothing else
+  -- 2 is given for "a FIFO length outside 1,024..8,192, or the two differ", and for nothing else
   pub lengths : (leb fifoLeast (length (s₀ .writeFifo)) && leb (length (s₀ .writeFifo)) fifoGreatest && eqb (length (s₀ .writeFifo)) (length (s₀ .readFifo))) ≡ false
   -- "a refused power-on gives the fresh record and leaves the FIFOs alone"
   pub device : s .device ≡ lastPowered (s₀ .device) h

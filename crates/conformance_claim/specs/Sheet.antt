@@ -1,6 +1,6 @@
 -- The bench sheet (document 01, 'Bench sheet (C = 1,024, not established)'): P1 to P12, each a list of calls from a fresh power-on,
 -- with what each of them has to give, and further entries of our own. The numerals of P1 to P12 are the papers'. Assumes nothing.
-use Prim.Native.Nat.{ℕ, zero, suc, _+_, _%_}
+use Prim.Native.Nat.{ℕ, zero, suc, _+_, _/_, _%_}
 use mathlib.Core.Path.{_≡_}
 use mathlib.Core.Bool.{Bool, true, false}
 use mathlib.Core.List.{List, [], _∷_, _++_}
@@ -132,9 +132,9 @@ p5 = p4 ++ (ignored 0x2000 0x08 ∷ [])
 abbrev pub p6 : List Line
 p6 = p5 ++ (write 0x4000 0x08 ∷ reads 0x3000 0x95 ∷ [])
 
--- "P7 fresh, 02 at 0000, 40 at 0018: STS C0h, 0019 reads 40h."
+-- "P7 fresh, 02 at 0000, 40 at 0018: STS C0h, .."; document 02, W6: "P7 gives 00 at 0019 and 02 at 001A"
 abbrev pub p7 : List Line
-p7 = write 0x0000 0x02 ∷ write 0x0018 0x40 ∷ reads 0x0018 0xc0 ∷ reads 0x0019 0x40 ∷ []
+p7 = write 0x0000 0x02 ∷ write 0x0018 0x40 ∷ reads 0x0018 0xc0 ∷ reads 0x0019 0x00 ∷ reads 0x001a 0x02 ∷ []
 
 -- a command's first six bytes, of which the last two are the low ones of the size
 abbrev pub head : ℕ → ℕ → List ℕ
@@ -166,9 +166,9 @@ complete n = send (filler 6 n) ++ (reads 0x0018 0x88 ∷ []) ++ send (filler (6 
 abbrev pub runs : ℕ → List ℕ → List Line
 runs n b = write 0x0018 0x20 ∷ run n ∷ reads 0x0018 0x80 ∷ reads 0x0024 0xff ∷ shows b ∷ []
 
--- burstCount, below 256
+-- burstCount, low byte first
 abbrev pub burst : ℕ → List Line
-burst n = reads 0x0019 n ∷ reads 0x001a 0 ∷ []
+burst n = reads 0x0019 (n % 256) ∷ reads 0x001a (n / 256) ∷ []
 
 -- "P8 after 00 C1 00 00 00 0A: 88h, go ignored; after ten bytes 80h, an eleventh ignored; go: run 1."
 abbrev pub p8 : List Line
@@ -192,7 +192,7 @@ p10 = p7 ++ (send (head 0x04 0x00) ++ complete 1017 ++ runs 1 (head 0x04 0x00 ++
 abbrev pub p10′ : List Line
 p10′ = p7 ++ (send (head 0x04 0x01) ++ complete 1017 ++ (shows (head 0x04 0x01 ++ filler 6 1018) ∷ write 0x0018 0x20 ∷ run 0 ∷ reads 0x0018 0x90 ∷ []) ++ receive badSize)
 
--- "P11 size 1,024, burst at 960 received: 64; at 961: 63; at 1,023: 1."
+-- "P11 size 1,024, burst at 960 received: 64; at 961: 63; at 1,023: 1."; document 02, W6: "P11 keeps its values, since C binds there"
 abbrev pub p11 : List Line
 p11 =
     p7
@@ -287,12 +287,12 @@ registers =
     ∷ reads 0x0001 0xff ∷ ignored 0x0001 0x02 ∷ reads 0x0007 0xff ∷ reads 0x0018 0xff ∷ reads 0x001b 0xff ∷ reads 0x0024 0xff ∷ reads 0x0028 0xff ∷ reads 0x4020 0xff ∷ reads 0x4028 0xff
     ∷ reads 0x0f00 0x00 ∷ ignored 0x0f00 0x01 ∷ reads 0x0f04 0x00 ∷ reads 0x0f05 0xff ∷ reads 0x1014 0x95 ∷ reads 0x4f04 0x00 ∷ []
 
--- "in Completion the lesser of 64 and the bytes unread; otherwise 0": in Idle, with a whole command received, and while it runs
+-- "in Completion the lesser of 512 and the bytes unread; otherwise 0": in Idle, with a whole command received, and while it runs
 abbrev pub bursts : List Line
 bursts =
     (write 0x0000 0x02 ∷ reads 0x0018 0x80 ∷ []) ++ burst 0
     ++ (write 0x0018 0x40 ∷ []) ++ send (head 0x00 0x0a) ++ complete 3 ++ burst 0 ++ (write 0x0018 0x20 ∷ []) ++ burst 0
-    ++ (answer 0 1 (filler 0 66) ∷ reads 0x0018 0x90 ∷ []) ++ burst 64 ++ receive (filler 0 2) ++ burst 64 ++ receive (filler 2 1) ++ burst 63
+    ++ (answer 0 1 (filler 0 514) ∷ reads 0x0018 0x90 ∷ []) ++ burst 512 ++ receive (filler 0 2) ++ burst 512 ++ receive (filler 2 1) ++ burst 511
 
 -- "PCRs 0 to 16 and 23 all 00h, 17 to 22 all FFh"; a start sets "PCRs 17 to 22 all 00h"; rows of the permission table; "5 question with PCR above 23
 -- or locality above 4"

@@ -7,7 +7,7 @@ mod guest;
 mod monitor;
 mod print;
 
-// C, the bytes of each FIFO: any number from 1,024 to 4,096.
+// C, the bytes of each FIFO: any number from 1,024 to 8,192.
 const FIFO_BYTES: usize = 1024;
 
 fn main() {

@@ -30,7 +30,7 @@ viewOf d = shapeView (d .control) (d .phase) (hashProgress (d .launch))
 abbrev pub lengthsOf : List ℕ → List ℕ → Lengths
 lengthsOf w r = record { write = length w; read = length r }
 
--- 2 is given exactly when not: "a FIFO length outside 1,024..4,096, or the two differ"
+-- 2 is given exactly when not: "a FIFO length outside 1,024..8,192, or the two differ"
 unfoldable pub lengthsAllowed : Lengths → Bool
 lengthsAllowed l = leb fifoLeast (l .write) && leb (l .write) fifoGreatest && eqb (l .write) (l .read)
 

@@ -9,7 +9,7 @@ accepted = 0
 abbrev pub offset : ℕ
 offset = 1
 
--- a FIFO length outside 1,024..4,096, or the two differ
+-- a FIFO length outside 1,024..8,192, or the two differ
 abbrev pub fifoLength : ℕ
 fifoLength = 2
 

@@ -19,7 +19,7 @@ phaseBits (Completion n k) = flagAt sts.dataAvail (ltb k n)
 unfoldable pub stsLow : Phase → Bool → ℕ
 stsLow p expect = flagAt sts.stsValid true + phaseBits p + flagAt sts.expect expect
 
--- "in Ready 64; in Reception while more is expected, the lesser of 64 and C minus the bytes received; in Completion the lesser of 64
+-- "in Ready 512; in Reception while more is expected, the lesser of 512 and C minus the bytes received; in Completion the lesser of 512
 -- and the bytes unread; otherwise 0"
 abbrev pub burstCount : Phase → Bool → ℕ → ℕ
 burstCount Idle expect c = 0

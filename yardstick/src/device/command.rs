@@ -14,8 +14,8 @@ const RESPONSE_RETRY: u8 = 0x02;
 /// The bits that count in a write.
 const WRITABLE: u8 = COMMAND_READY | TPM_GO | RESPONSE_RETRY;
 
-/// The most that burstCount promises.
-const BURST: u16 = 64;
+/// The most that burstCount promises, as request W6 of document 02 has it.
+const BURST: u16 = 512;
 
 /// Bytes of a command up to and with its declared size.
 const SIZE_END: usize = 6;
@@ -60,7 +60,7 @@ impl Device {
         match self.phase {
             Phase::Ready => BURST,
             Phase::Reception(received) if more_expected(write, received) => {
-                // The shape rule keeps the FIFO length within 16 bits and `received` within it.
+                // Refusal 2 keeps the FIFO length within 16 bits, the shape rule `received` within it.
                 BURST.min(write.len() as u16 - received)
             }
             Phase::Completion(length, read) => BURST.min(length - read),

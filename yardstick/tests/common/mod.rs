@@ -30,7 +30,12 @@ impl Bench {
 
     /// Locality 0 active and in Ready, C = 1,024.
     pub fn ready() -> Bench {
-        let mut bench = Bench::held_by(0, 1024);
+        Bench::ready_with(1024)
+    }
+
+    /// Locality 0 active and in Ready, FIFOs of length `c`.
+    pub fn ready_with(c: usize) -> Bench {
+        let mut bench = Bench::held_by(0, c);
         bench.put(0x0018, 0x40);
         bench
     }
@@ -123,8 +128,13 @@ pub fn at(x: u8, within: u64) -> u64 {
 pub fn command(size: u32) -> Vec<u8> {
     let mut bytes = vec![0x00, 0xc1];
     bytes.extend(size.to_be_bytes());
-    bytes.extend((6..size).map(|n| n as u8));
+    bytes.extend((6..size).map(nth_byte));
     bytes
+}
+
+/// A byte for place `n`; an odd period, so that bytes one burst or one power of two apart differ.
+pub fn nth_byte(n: u32) -> u8 {
+    (n % 251) as u8
 }
 
 pub fn hex(bytes: &[u8]) -> String {
