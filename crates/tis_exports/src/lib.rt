@@ -58,18 +58,22 @@ fn once(
     }
 }
 
-// Plays the script so many times from a power-on with FIFOs of 1,024 bytes. Answers the sum.
+// Plays the script so many times from a power-on with the FIFOs lent. Answers the sum.
 #[no_mangle]
-pub extern "C" fn tis_play(script: &[u8], answer: &[u8], times: u64) -> u64 {
-    let mut w = [0u8; 1024];
-    let mut r = [0u8; 1024];
-    let o = tis::power_on(false, [0u8; 5], &mut w, &mut r);
+pub extern "C" fn tis_play(
+    script: &[u8],
+    answer: &[u8],
+    w: &mut [u8],
+    r: &mut [u8],
+    times: u64,
+) -> u64 {
+    let o = tis::power_on(false, [0u8; 5], w, r);
     let mut d = o.device;
     let mut sum: u64 = 0;
     let mut i: u64 = 0;
     while i < times {
         i += 1;
-        let t = once(d, &mut w, &mut r, script, answer, sum);
+        let t = once(d, w, r, script, answer, sum);
         d = t.device;
         sum = t.sum;
     }

@@ -7,12 +7,12 @@ use Rattle.tis_exports.proofs.tis_play.Statement.{statement}
 use Rattle.tis_exports.proofs.tis_play.Tie as tie
 
 abbrev Inv-loop : tie.InvT-loop
-Inv-loop script answer times w₀ r₀ d₀ sum₀ i₀ w r d sum i = (i ≤ times) × (length w ≡ 1024) × (length r ≡ 1024)
+Inv-loop script answer w₀ r₀ times d₀ sum₀ i₀ w r d sum i = (i ≤ times) × (length w ≡ length w₀) × (length r ≡ length r₀)
 
 abbrev μ-loop : tie.MeasureT-loop
-μ-loop script answer times w₀ r₀ d₀ sum₀ i₀ w r d sum i = times - i
+μ-loop script answer w₀ r₀ times d₀ sum₀ i₀ w r d sum i = times - i
 
 pub tis-play-spec : {M : Type 1} → statement M
 tis-play-spec =
     tie.close
-    (tie.spec Inv-loop μ-loop (λ c. search needs) (λ c. search needs) (λ c κs. search needs) (λ c. search needs) (λ c. search needs) (λ c. search needs) (λ c. search needs) (λ c κs. search needs) (λ c. search needs) (λ c. search needs) (λ c. search needs))
+    (tie.spec Inv-loop μ-loop (λ c κs. search needs) (λ c. search needs) (λ c. search needs) (λ c κs. search needs) (λ c. search needs) (λ c. search needs) (λ c. search needs) (λ c. search needs) (λ c. search needs))

@@ -1,15 +1,17 @@
 //! Times bus cycles of the proved front beside the yardstick's, in turn, and prints the medians with their ratio and its spread.
 //!
 //! Both play the same script of cycles over and over on a device of their own, and both give a sum of what they read and were refused, which
-//! has to be the same. `bench_cycles same` looks at the sums and times nothing. `bench_cycles once NAME proved|ordinary N` plays one script N
-//! times and prints the sum: a tracer's way in.
+//! has to be the same. A second table has what the length of the FIFOs costs. `bench_cycles same` looks at the sums and times nothing.
+//! `bench_cycles once NAME C proved|ordinary N` plays one script N times with FIFOs of C bytes and prints the sum: a tracer's way in.
+mod scripts;
+
+use scripts::{Script, GREATEST, LEAST};
 use std::hint::black_box;
 use std::process;
 use std::time::Instant;
 use yardstick::Device;
 
 const RUNS: usize = 31;
-const C: usize = 1024;
 
 #[link(name = "tis_exports", kind = "static")]
 extern "C" {
@@ -19,129 +21,33 @@ extern "C" {
         script_len: usize,
         answer: *const u8,
         answer_len: usize,
+        write_fifo: *mut u8,
+        write_fifo_len: usize,
+        read_fifo: *mut u8,
+        read_fifo_len: usize,
         times: u64,
     ) -> u64;
 }
 
-/// Four bytes each: 0 reads, 1 writes, 2 answers; the offset, high byte first; the byte written.
-#[derive(Clone)]
-struct Script {
-    name: &'static str,
-    cycles: Vec<u8>,
-    answer: Vec<u8>,
-    /// What one playing of the script counts as.
-    units: usize,
-    times: u64,
-}
-
-impl Script {
-    fn new(name: &'static str, answer: usize, units: usize, times: u64) -> Self {
-        Script {
-            name,
-            cycles: Vec::new(),
-            answer: vec![0x5a; answer],
-            units,
-            times,
-        }
-    }
-
-    fn push(mut self, kind: u8, offset: u16, byte: u8, count: usize) -> Self {
-        for _ in 0..count {
-            self.cycles
-                .extend([kind, (offset >> 8) as u8, offset as u8, byte]);
-        }
-        self
-    }
-
-    fn read(self, offset: u16, count: usize) -> Self {
-        self.push(0, offset, 0, count)
-    }
-
-    fn write(self, offset: u16, byte: u8) -> Self {
-        self.push(1, offset, byte, 1)
-    }
-
-    fn respond(self) -> Self {
-        self.push(2, 0, 0, 1)
-    }
-
-    /// A command of n bytes, its size in bytes 2 to 5, high byte first.
-    fn command(mut self, n: usize) -> Self {
-        let mut bytes = vec![0xa5; n];
-        bytes[2..6].copy_from_slice(&(n as u32).to_be_bytes());
-        for byte in bytes {
-            self = self.write(0x0024, byte);
-        }
-        self
-    }
-
-    /// Twice commandReady: the first drops what an earlier playing left.
-    fn ready(self) -> Self {
-        self.write(0x0000, 0x02)
-            .write(0x0018, 0x40)
-            .write(0x0018, 0x40)
-    }
-}
-
-/// A driver's whole command: request, ready, the command, go, the answer read back, ready, release.
-fn whole(name: &'static str, n: usize, times: u64) -> Script {
-    Script::new(name, n, 1, times)
-        .write(0x0000, 0x02)
-        .write(0x0018, 0x40)
-        .command(n)
-        .write(0x0018, 0x20)
-        .respond()
-        .read(0x0018, 1)
-        .read(0x0024, n)
-        .write(0x0018, 0x40)
-        .write(0x0000, 0x20)
-}
-
-fn scripts() -> Vec<Script> {
-    vec![
-        Script::new("ACCESS read", 0, 1000, 200)
-            .write(0x0000, 0x02)
-            .read(0x0000, 1000),
-        Script::new("STS read", 0, 1000, 200)
-            .ready()
-            .read(0x0018, 1000),
-        Script::new("FIFO write", 0, C, 200).ready().command(C),
-        Script::new("FIFO read", C, C, 200)
-            .ready()
-            .command(10)
-            .write(0x0018, 0x20)
-            .respond()
-            .read(0x0024, C),
-        Script::new("request and release, one waits", 0, 1, 20_000)
-            .write(0x1000, 0x02)
-            .write(0x0000, 0x02)
-            .write(0x1000, 0x20)
-            .write(0x0000, 0x20),
-        whole("command of 34 bytes, answered", 34, 2_000),
-        whole("command of 64 bytes, answered", 64, 1_000),
-        whole("command of 512 bytes, answered", 512, 200),
-        whole("command of 1,024 bytes, answered", C, 100),
-        Script::new("launch of 1 MiB", 0, 1, 1)
-            .write(0x4028, 0)
-            .push(1, 0x4024, 0xa5, 1 << 20)
-            .write(0x4020, 0),
-    ]
-}
-
 fn proved(s: &Script, times: u64) -> u64 {
+    let (mut w, mut r) = (vec![0; s.c], vec![0; s.c]);
     unsafe {
         tis_play(
             s.cycles.as_ptr(),
             s.cycles.len(),
             s.answer.as_ptr(),
             s.answer.len(),
+            w.as_mut_ptr(),
+            w.len(),
+            r.as_mut_ptr(),
+            r.len(),
             times,
         )
     }
 }
 
 fn ordinary(s: &Script, times: u64) -> u64 {
-    let (mut w, mut r) = ([0; C], [0; C]);
+    let (mut w, mut r) = (vec![0; s.c], vec![0; s.c]);
     let (_, mut device) = Device::power_on(false, [0; 5], &mut w, &mut r);
     let mut sum = 0u64;
     for _ in 0..times {
@@ -185,7 +91,7 @@ impl Spread {
 
 /// The script followed by reads that show what it left: writes alone show only that they were accepted.
 fn probed(s: &Script) -> Script {
-    const SHOWN: [u16; 6] = [0x000, 0x008, 0x010, 0x018, 0x019, 0x024];
+    const SHOWN: [u16; 7] = [0x000, 0x008, 0x010, 0x018, 0x019, 0x01a, 0x024];
     let mut probe = s.clone();
     for page in 0..5 {
         for within in SHOWN {
@@ -228,12 +134,51 @@ fn compare_all() {
         "Medians of {RUNS} runs, the two in turn: nanoseconds each, the ratio of times, proved to ordinary, and its middle half\n"
     );
     println!("| | proved, ns | Rust, ns | ratio | middle half |\n|---|---|---|---|---|");
-    scripts().iter().for_each(compare);
+    scripts::all().iter().for_each(compare);
+}
+
+/// One side's times with FIFOs of the least and of the greatest length, in turn.
+fn lengths_cost(play: fn(&Script, u64) -> u64, s: &Script) -> String {
+    let (short, long) = (s.clone().lent(LEAST), s.clone().lent(GREATEST));
+    let each = 1e9 / (s.units as f64 * s.times as f64);
+    let (mut least, mut greatest, mut more) = (Vec::new(), Vec::new(), Vec::new());
+    for _ in 0..RUNS {
+        let (a, b) = (seconds(play, &short) * each, seconds(play, &long) * each);
+        least.push(a);
+        greatest.push(b);
+        more.push(b - a);
+    }
+    let more = Spread::of(more);
+    format!(
+        "{:.1} | {:.1} | {:.1} | {:.1} to {:.1}",
+        Spread::of(least).median,
+        Spread::of(greatest).median,
+        more.median,
+        more.low,
+        more.high
+    )
+}
+
+fn compare_lengths() {
+    println!("\nThe same cycles with FIFOs of {LEAST} and of {GREATEST} bytes, in turn: nanoseconds each, the difference, and its middle half\n");
+    println!("| | C = {LEAST} | C = {GREATEST} | more | middle half |\n|---|---|---|---|---|");
+    for s in scripts::at_both_lengths() {
+        same(&s.clone().lent(GREATEST));
+        println!("| {}, proved | {} |", s.name, lengths_cost(proved, &s));
+        println!("| {}, Rust | {} |", s.name, lengths_cost(ordinary, &s));
+    }
+}
+
+/// The script of that name.
+fn named(name: &str) -> Option<Script> {
+    let mut all = scripts::all();
+    all.extend(scripts::at_both_lengths());
+    all.into_iter().find(|s| s.name == name)
 }
 
 /// The sum of one script, where the words name one.
-fn once(name: &str, side: &str, times: &str) -> Option<u64> {
-    let script = scripts().into_iter().find(|s| s.name == name)?;
+fn once(name: &str, c: &str, side: &str, times: &str) -> Option<u64> {
+    let script = named(name)?.lent(c.parse().ok()?);
     let times = times.parse().ok()?;
     match side {
         "proved" => Some(proved(&script, times)),
@@ -242,19 +187,30 @@ fn once(name: &str, side: &str, times: &str) -> Option<u64> {
     }
 }
 
+fn same_all() {
+    scripts::all().iter().for_each(same);
+    for s in scripts::at_both_lengths() {
+        same(&s.clone().lent(GREATEST));
+        same(&s);
+    }
+}
+
 fn main() {
     let words: Vec<String> = std::env::args().skip(1).collect();
     let words: Vec<&str> = words.iter().map(String::as_str).collect();
     match words[..] {
-        [] => return compare_all(),
-        ["same"] => return scripts().iter().for_each(same),
-        ["once", name, side, times] => {
-            if let Some(sum) = once(name, side, times) {
+        [] => {
+            compare_all();
+            return compare_lengths();
+        }
+        ["same"] => return same_all(),
+        ["once", name, c, side, times] => {
+            if let Some(sum) = once(name, c, side, times) {
                 return println!("{sum}");
             }
         }
         _ => {}
     }
-    eprintln!("usage: bench_cycles [same | once NAME proved|ordinary N]");
+    eprintln!("usage: bench_cycles [same | once NAME C proved|ordinary N]");
     process::exit(2);
 }
