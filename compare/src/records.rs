@@ -134,6 +134,16 @@ pub fn busy_phase(random: &Random) -> Phase {
     }
 }
 
+/// A phase with a count around the greatest burst or a limit of C, in shape or not.
+pub fn counted_phase(random: &Random) -> Phase {
+    let n = random.pick(&[511, 512, 513, 4096, 4097, 8191, 8192, 8193]);
+    match random.below(3) {
+        0 => Phase::Reception(n),
+        1 => Phase::Execution(n),
+        _ => Phase::Completion(n, n - random.pick(&[0, 1, 256, 511])),
+    }
+}
+
 fn broken_high(random: &Random, c: u16) -> u16 {
     let greatest = GREATEST_C as u16;
     random.pick(&[c + 1, c + 512, greatest.max(c + 1), greatest + 1, u16::MAX])

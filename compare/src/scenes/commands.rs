@@ -16,6 +16,9 @@ const FAR_ABOVE: [u32; 6] = [
     u32::MAX,
 ];
 
+/// Declared sizes around the greatest burst and the limits of C, the old one too.
+const AT_LIMITS: [u32; 8] = [511, 512, 513, 4096, 4097, 8191, 8192, 8193];
+
 impl Scene<'_> {
     fn any_size(&mut self) -> u32 {
         let c = self.state.write.len() as u32;
@@ -26,6 +29,7 @@ impl Scene<'_> {
             3 => self.random.pick(&FAR_ABOVE),
             4 => self.random.within(10, 200) as u32,
             5 if self.random.once_in(4) => self.random.within(10, u64::from(c)) as u32,
+            6 if self.random.once_in(4) => self.random.pick(&AT_LIMITS),
             _ => self.random.within(10, 40) as u32,
         }
     }

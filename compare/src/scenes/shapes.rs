@@ -46,8 +46,10 @@ impl Scene<'_> {
             };
             let x = self.random.locality();
             let mut device = records::held(self.random, x);
-            if self.random.coin() {
-                device.phase = records::busy_phase(self.random);
+            match self.random.below(3) {
+                0 => device.phase = records::busy_phase(self.random),
+                1 => device.phase = records::counted_phase(self.random),
+                _ => {}
             }
             let (write, read) = (self.fifo(write), self.fifo(read));
             self.load(device, write, read);

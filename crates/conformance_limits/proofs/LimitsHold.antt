@@ -1,13 +1,14 @@
 -- The limits hold as the papers' numerals say, by computation. Assumes nothing.
 use Prim.Native.Nat.{ℕ}
-use mathlib.Core.Path.{_≡_, refl}
+use mathlib.Core.Path.{_≡_, refl, sym, ap, subst}
 use mathlib.Core.Bool.{Bool, true, false, cond, not, _&&_}
-use mathlib.Core.List.{List}
+use mathlib.Core.List.{List, []}
 use lib.Dec.{eqb, leb}
 use lib.ListN.{length}
 use Rattle.pcr.specs.Bank.{valueAt, allBytes}
 use Rattle.record.specs.Record.{freshDevice}
 use Rattle.record.specs.declared.Device.{Device}
+use Rattle.record.specs.declared.Phase.{Phase}
 use Rattle.record.specs.declared.Phase.the-variants.{Ready, Reception, Execution, Completion}
 use Rattle.record_shape.specs.Shape.{lengthsAllowed, inShape}
 use Rattle.reg_map.specs.Map.{registerAt}
@@ -21,7 +22,11 @@ use Rattle.call_outcome.specs.Result.{result}
 use Rattle.call_power.specs.Power.{powerOn}
 use Rattle.call_query.specs.Query.{pcrOutcome, pcrValue}
 use Rattle.call_bus.specs.Bus.{read, readCycle, acceptedRead}
-use Rattle.conformance_limits.specs.Limits.{Lengths, asked, Counts, lent, Bursts, ready, sending, reading, LimitsClaim}
+use Rattle.claims.specs.Calls as call
+use Rattle.claims.specs.Calls.{State, state, Answer, Called, called}
+use Rattle.claims.proofs.Steps.{Step}
+use Rattle.claims.proofs.Bridge.{step-called}
+use Rattle.conformance_limits.specs.Limits.{lengthsRefusal, Lengths, inPhase, asked, Counts, lent, Bursts, ready, sending, reading, LimitsClaim}
 
 lengths-hold : Lengths
 unfolding powerOn lengthsAllowed
@@ -56,3 +61,17 @@ limits-hold = record {
   whileSending = λ d. bursts-hold d .1;
   whileReading = λ d. bursts-hold d .2;
 }
+
+-- ---- on the calls' own contracts: whoever makes the calls by steps that they allow meets the same numbers
+
+pub lengths-on-contracts : (d : Device) (w r : List ℕ) (established : Bool) (identity : List ℕ) {a : Answer} {s : State}
+    → Step (call.powerOn established identity) (state d w r) a s → a .refusal ≡ lengthsRefusal (length w) (length r)
+lengths-on-contracts d w r established identity p =
+    subst (λ (k : Called). k .answer .refusal ≡ lengthsRefusal (length w) (length r)) (step-called p) (lengths-hold d w r established identity)
+
+pub asked-on-contracts : (d : Device) (q : Phase) {a : Answer} {s : State} → Step (call.pcrValue 0) (state (inPhase d q) [] []) a s → a .refusal ≡ asked d q
+asked-on-contracts d q p = sym (ap (λ (k : Called). k .answer .refusal) (step-called p))
+
+-- a read of burstCount is answered as `heard` says
+pub read-on-contracts : (o : ℕ) (s : State) {a : Answer} {t : State} → Step (call.read o) s a t → a ≡ called (call.read o) s .answer
+read-on-contracts o s p = sym (ap (λ (k : Called). k .answer) (step-called p))
