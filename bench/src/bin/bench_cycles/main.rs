@@ -64,10 +64,19 @@ fn ordinary(s: &Script, times: u64) -> u64 {
     sum
 }
 
-fn seconds(f: fn(&Script, u64) -> u64, s: &Script) -> f64 {
+type Play = fn(&Script, u64) -> u64;
+
+fn seconds(play: Play, s: &Script) -> f64 {
     let began = Instant::now();
-    black_box(f(black_box(s), s.times));
+    black_box(play(black_box(s), s.times));
     began.elapsed().as_secs_f64()
+}
+
+/// Two plays in turn, so that both meet the same machine: nanoseconds for each unit.
+fn in_turn(first: (Play, &Script), second: (Play, &Script)) -> Vec<(f64, f64)> {
+    let each =
+        |(play, s): (Play, &Script)| seconds(play, s) * 1e9 / (s.units as f64 * s.times as f64);
+    (0..RUNS).map(|_| (each(first), each(second))).collect()
 }
 
 /// Median, and the middle half: a quarter of the values lies below it and a quarter above.
@@ -78,7 +87,8 @@ struct Spread {
 }
 
 impl Spread {
-    fn of(mut values: Vec<f64>) -> Self {
+    fn of(values: impl Iterator<Item = f64>) -> Self {
+        let mut values: Vec<f64> = values.collect();
         values.sort_by(f64::total_cmp);
         let n = values.len();
         Spread {
@@ -109,20 +119,13 @@ fn same(s: &Script) {
 
 fn compare(s: &Script) {
     same(s);
-    let each = 1e9 / (s.units as f64 * s.times as f64);
-    let (mut ours, mut theirs, mut ratios) = (Vec::new(), Vec::new(), Vec::new());
-    for _ in 0..RUNS {
-        let (a, b) = (seconds(proved, s) * each, seconds(ordinary, s) * each);
-        ours.push(a);
-        theirs.push(b);
-        ratios.push(a / b);
-    }
-    let ratio = Spread::of(ratios);
+    let times = in_turn((proved, s), (ordinary, s));
+    let ratio = Spread::of(times.iter().map(|(ours, theirs)| ours / theirs));
     println!(
         "| {} | {:.1} | {:.1} | {:.2} | {:.2} to {:.2} |",
         s.name,
-        Spread::of(ours).median,
-        Spread::of(theirs).median,
+        Spread::of(times.iter().map(|(ours, _)| *ours)).median,
+        Spread::of(times.iter().map(|(_, theirs)| *theirs)).median,
         ratio.median,
         ratio.low,
         ratio.high
@@ -137,22 +140,15 @@ fn compare_all() {
     scripts::all().iter().for_each(compare);
 }
 
-/// One side's times with FIFOs of the least and of the greatest length, in turn.
-fn lengths_cost(play: fn(&Script, u64) -> u64, s: &Script) -> String {
+/// One side with FIFOs of the least and of the greatest length.
+fn lengths_cost(play: Play, s: &Script) -> String {
     let (short, long) = (s.clone().lent(LEAST), s.clone().lent(GREATEST));
-    let each = 1e9 / (s.units as f64 * s.times as f64);
-    let (mut least, mut greatest, mut more) = (Vec::new(), Vec::new(), Vec::new());
-    for _ in 0..RUNS {
-        let (a, b) = (seconds(play, &short) * each, seconds(play, &long) * each);
-        least.push(a);
-        greatest.push(b);
-        more.push(b - a);
-    }
-    let more = Spread::of(more);
+    let times = in_turn((play, &short), (play, &long));
+    let more = Spread::of(times.iter().map(|(least, greatest)| greatest - least));
     format!(
         "{:.1} | {:.1} | {:.1} | {:.1} to {:.1}",
-        Spread::of(least).median,
-        Spread::of(greatest).median,
+        Spread::of(times.iter().map(|(least, _)| *least)).median,
+        Spread::of(times.iter().map(|(_, greatest)| *greatest)).median,
         more.median,
         more.low,
         more.high
