@@ -10,10 +10,10 @@ use crate::state::State;
 use crate::turn::{Turn, KINDS, REFUSALS};
 use access::AccessReads;
 use handovers::{By, Handovers};
-use limits::{LentCall, Limits};
+use limits::Limits;
 use yardstick::book::{bound, Served};
 use yardstick::call::Call;
-use yardstick::device::MOST_HASH_BYTES;
+use yardstick::device::{GREATEST_C, MOST_HASH_BYTES};
 use yardstick::{Device, Phase};
 
 /// What a call is judged by besides the record that it leaves.
@@ -70,6 +70,10 @@ enum Event {
     AnswerAboveC,
     CommandOfC,
     CommandAboveC,
+    AnswerOfGreatestC,
+    AnswerAboveGreatestC,
+    CommandOfGreatestC,
+    CommandAboveGreatestC,
     CommandFarAbove,
     RunBeyondSize,
     LastHashByte,
@@ -78,7 +82,7 @@ enum Event {
 }
 
 /// In the order of `Event`.
-const EVENTS: [&str; 27] = [
+const EVENTS: [&str; 31] = [
     "waits begun",
     "handovers that serve a waiting locality",
     "handovers that free the device",
@@ -101,6 +105,10 @@ const EVENTS: [&str; 27] = [
     "answers of C + 1 bytes refused",
     "commands of C bytes run",
     "commands of C + 1 bytes answered",
+    "answers of C bytes accepted, C the greatest",
+    "answers of C + 1 bytes refused, C the greatest",
+    "commands of C bytes run, C the greatest",
+    "commands of C + 1 bytes answered, C the greatest",
     "commands of 65,536 bytes or more answered",
     "runs started with more bytes than declared",
     "hash byte number 1,048,576 taken",
@@ -150,7 +158,6 @@ impl Coverage {
         let device = &after.device;
         self.event(Event::OddAndOutOfShape, refusal == 2 && !before.in_shape);
         self.count_byte(turn, refusal);
-        self.count_lent(turn, refusal, after);
         self.most_waiting = self.most_waiting.max(number(&device.waiting));
         match turn {
             Turn::Load { note, state } => {
@@ -160,53 +167,45 @@ impl Coverage {
                 let (write, read) = (state.write.len(), state.read.len());
                 self.lengths[usize::from(write == read)] += 1;
             }
-            Turn::Made(Call::Respond { answer, .. }) => {
-                let c = after.read.len();
-                self.event(Event::AnswerOfC, refusal == 0 && answer.len() == c);
-                self.event(Event::AnswerAboveC, refusal == 4 && answer.len() == c + 1);
+            Turn::Made(call) => {
+                self.limits.count(before, call, refusal, after);
+                self.count_call(before, call, refusal, after);
+                self.event(Event::Line, *call == Call::InterruptLine && outcome[0] == 1);
+            }
+        }
+    }
+
+    fn count_call(&mut self, before: &Before, call: &Call, refusal: u8, after: &State) {
+        match call {
+            Call::Respond { answer, .. } => {
                 let executing = matches!(before.phase, Phase::Execution(_));
                 self.event(Event::Answer, refusal == 0);
                 self.event(Event::StaleAnswer, refusal == 3 && executing);
+                self.count_answer(answer.len(), refusal, after.read.len());
             }
-            Turn::Made(Call::PcrValue { pcr }) if *pcr < 24 => {
-                self.limits.count_question(before, refusal);
-            }
-            Turn::Made(Call::InterruptLine) => self.event(Event::Line, outcome[0] == 1),
-            Turn::Made(Call::Read { offset }) if refusal == 0 => {
-                self.access.count(before, *offset);
-                self.limits.count_read(before, *offset, after.read.len());
-            }
-            Turn::Made(Call::Write { offset, byte }) if refusal == 0 => {
-                self.count_holding(before, device, *offset, *byte);
+            Call::Read { offset } if refusal == 0 => self.access.count(before, *offset),
+            Call::Write { offset, byte } if refusal == 0 => {
+                self.count_holding(before, &after.device, *offset, *byte);
                 self.count_command(before, after, *offset, *byte);
             }
             _ => {}
         }
     }
 
+    /// An answer of this length, with FIFOs of c bytes.
+    fn count_answer(&mut self, length: usize, refusal: u8, c: usize) {
+        let whole = refusal == 0 && length == c;
+        let above = refusal == 4 && length == c + 1;
+        self.event(Event::AnswerOfC, whole);
+        self.event(Event::AnswerAboveC, above);
+        self.event(Event::AnswerOfGreatestC, whole && c == GREATEST_C);
+        self.event(Event::AnswerAboveGreatestC, above && c == GREATEST_C);
+    }
+
     /// A wait that ended by a handover.
     pub fn count_wait(&mut self, served: Option<Served>) {
         let last = served.is_some_and(|wait| wait.k > 0 && wait.handovers == bound(wait.x, wait.k));
         self.event(Event::LongestWait, last);
-    }
-
-    fn count_lent(&mut self, turn: &Turn, refusal: u8, state: &State) {
-        if let Turn::Made(
-            Call::PowerOn { .. }
-            | Call::Reset
-            | Call::Read { .. }
-            | Call::Write { .. }
-            | Call::Respond { .. }
-            | Call::Window,
-        ) = turn
-        {
-            let (write, read) = (state.write.len(), state.read.len());
-            self.limits.count_lengths(&LentCall {
-                write,
-                read,
-                refusal,
-            });
-        }
     }
 
     fn count_byte(&mut self, turn: &Turn, refusal: u8) {
@@ -289,10 +288,17 @@ impl Coverage {
         let (after, c) = (&state.device, state.write.len() as u64);
         let run = after.run != before.run;
         let answered = matches!(after.phase, Phase::Completion(..));
+        let greatest = c == GREATEST_C as u64;
         self.event(Event::CommandOfC, run && u64::from(n) == c);
+        self.event(
+            Event::CommandOfGreatestC,
+            run && u64::from(n) == c && greatest,
+        );
         self.event(Event::RunBeyondSize, run && u64::from(n) > before.declared);
         self.event(Event::BadSize, answered);
-        self.event(Event::CommandAboveC, answered && before.declared == c + 1);
+        let above = answered && before.declared == c + 1;
+        self.event(Event::CommandAboveC, above);
+        self.event(Event::CommandAboveGreatestC, above && greatest);
         let far = before.declared > u64::from(u16::MAX);
         self.event(Event::CommandFarAbove, answered && far);
     }

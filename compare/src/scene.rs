@@ -5,6 +5,7 @@ use crate::records;
 use crate::state::State;
 use crate::turn::Turn;
 use yardstick::call::Call;
+use yardstick::device::GREATEST_C;
 use yardstick::Device;
 
 pub const ACCESS: u64 = 0x000;
@@ -26,6 +27,7 @@ const BYTES: [u8; 14] = [
 /// The greatest length that `replay` takes (docs/REPLAY.md): above the greatest C, so that lengths beyond it are compared too.
 pub const LONGEST: usize = 9000;
 
+/// 8,193, the first length that is too great, twice as often.
 const LENGTHS: [usize; 18] = [
     0, 1, 9, 10, 511, 512, 1022, 1023, 1024, 1025, 2048, 4096, 4097, 8191, 8192, 8193, 8193,
     LONGEST,
@@ -88,6 +90,14 @@ impl Scene<'_> {
             1 => self.random.within(1024, 8192) as usize,
             2 => 1025,
             _ => 1024,
+        }
+    }
+
+    /// The greatest C more often, where few calls are made with it.
+    pub fn c_for_few(&mut self) -> usize {
+        match self.random.once_in(4) {
+            true => GREATEST_C,
+            false => self.c(),
         }
     }
 

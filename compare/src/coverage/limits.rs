@@ -2,6 +2,9 @@
 
 use super::Before;
 use crate::scene::{at, BURST_COUNT};
+use crate::state::State;
+use yardstick::call::Call;
+use yardstick::device::GREATEST_C;
 use yardstick::Phase;
 
 /// Lengths of both FIFOs around the limits, and the refusal number that a call lent them has to have had.
@@ -16,7 +19,7 @@ const LENGTHS: [(usize, u8); 8] = [
     (9000, 2),
 ];
 
-/// Counts around the greatest C, and the refusal number that the question for a PCR, which is lent no FIFO, has to have had.
+/// Counts around the greatest C, and the refusal number that a call lent FIFOs of that length, or none, has to have had.
 const COUNTS: [(u16, u8); 2] = [(8192, 0), (8193, 6)];
 
 /// Whose count it is.
@@ -33,24 +36,30 @@ const READS: [&str; 4] = [
     "to be read, high byte read",
 ];
 
-/// A call that is lent both FIFOs: how long they are, and what it is refused with.
-pub struct LentCall {
-    pub write: usize,
-    pub read: usize,
-    pub refusal: u8,
-}
-
 #[derive(Default)]
 pub struct Limits {
     lengths: [u64; LENGTHS.len()],
-    /// By the phase, then by the count.
-    counts: [[u64; COUNTS.len()]; COUNTED.len()],
+    /// By the phase, then by the count: questions for a PCR, and calls lent FIFOs of the greatest length.
+    asked: [[u64; COUNTS.len()]; COUNTED.len()],
+    lent: [[u64; COUNTS.len()]; COUNTED.len()],
     /// By what is read, then by the bytes left.
     bursts: [[u64; LEFT.len()]; READS.len()],
 }
 
+/// The place in `COUNTED` of the phase, and in `COUNTS` of its count and the refusal number.
+fn counted(before: &Before, refusal: u8) -> Option<(usize, usize)> {
+    let (phase, count) = match before.phase {
+        Phase::Reception(n) => (0, n),
+        Phase::Execution(n) => (1, n),
+        Phase::Completion(n, _) => (2, n),
+        _ => return None,
+    };
+    let place = COUNTS.iter().position(|pair| *pair == (count, refusal))?;
+    Some((phase, place))
+}
+
 /// The first place in `READS` of the phase, and the bytes left in it; of a command none are left once nothing more is expected.
-fn left(before: &Before, c: usize) -> Option<(usize, usize)> {
+fn bytes_left(before: &Before, c: usize) -> Option<(usize, usize)> {
     match before.phase {
         Phase::Reception(n) => {
             let n = usize::from(n);
@@ -63,30 +72,43 @@ fn left(before: &Before, c: usize) -> Option<(usize, usize)> {
 }
 
 impl Limits {
-    pub fn count_lengths(&mut self, call: &LentCall) {
-        let found = LENGTHS.iter().position(|(length, refusal)| {
-            call.write == *length && call.read == *length && call.refusal == *refusal
-        });
-        if let Some(place) = found {
+    pub fn count(&mut self, before: &Before, call: &Call, refusal: u8, after: &State) {
+        match call {
+            Call::PcrValue { pcr } if *pcr < 24 => self.count_asked(before, refusal),
+            Call::PcrValue { .. }
+            | Call::InterruptLine
+            | Call::MayReset { .. }
+            | Call::MayExtend { .. } => return,
+            _ => self.count_lent(before, refusal, after),
+        }
+        if let (Call::Read { offset }, 0) = (call, refusal) {
+            self.count_read(before, *offset, after.read.len());
+        }
+    }
+
+    /// The question for a PCR that there is, which is lent no FIFO.
+    fn count_asked(&mut self, before: &Before, refusal: u8) {
+        if let Some((phase, place)) = counted(before, refusal) {
+            self.asked[phase][place] += 1;
+        }
+    }
+
+    /// A call that is lent both FIFOs.
+    fn count_lent(&mut self, before: &Before, refusal: u8, after: &State) {
+        let (write, read) = (after.write.len(), after.read.len());
+        if write != read {
+            return;
+        }
+        if let Some(place) = LENGTHS.iter().position(|pair| *pair == (write, refusal)) {
             self.lengths[place] += 1;
         }
-    }
-
-    /// Takes the question for PCR 0 to 23.
-    pub fn count_question(&mut self, before: &Before, refusal: u8) {
-        let (phase, count) = match before.phase {
-            Phase::Reception(n) => (0, n),
-            Phase::Execution(n) => (1, n),
-            Phase::Completion(n, _) => (2, n),
-            _ => return,
-        };
-        if let Some(place) = COUNTS.iter().position(|pair| *pair == (count, refusal)) {
-            self.counts[phase][place] += 1;
+        if let (GREATEST_C, Some((phase, place))) = (write, counted(before, refusal)) {
+            self.lent[phase][place] += 1;
         }
     }
 
-    /// Takes an accepted read at any offset, with FIFOs of c bytes.
-    pub fn count_read(&mut self, before: &Before, offset: u64, c: usize) {
+    /// An accepted read at any offset, with FIFOs of c bytes.
+    fn count_read(&mut self, before: &Before, offset: u64, c: usize) {
         let x = (offset >> 12) as u8;
         if before.active != Some(x) {
             return;
@@ -94,7 +116,7 @@ impl Limits {
         let Some(byte) = (0..2).find(|byte| offset == at(x, BURST_COUNT + byte)) else {
             return;
         };
-        let Some((first, left)) = left(before, c) else {
+        let Some((first, left)) = bytes_left(before, c) else {
             return;
         };
         if let Some(place) = LEFT.iter().position(|n| usize::from(*n) == left) {
@@ -109,11 +131,10 @@ impl Limits {
         for ((length, refusal), count) in LENGTHS.iter().zip(self.lengths) {
             println!("  {length} bytes, refusal {refusal}: {count}");
         }
-        println!(
-            "questions for a PCR with a count of 8,192, accepted, and of 8,193, refused as 6:"
-        );
-        for (name, [greatest, above]) in COUNTED.iter().zip(self.counts) {
-            println!("  {name}: {greatest} and {above}");
+        println!("with a count of 8,192, accepted, and of 8,193, refused as 6: questions for a PCR; calls with C = 8,192:");
+        for (phase, name) in COUNTED.iter().enumerate() {
+            let ([a, b], [c, d]) = (self.asked[phase], self.lent[phase]);
+            println!("  {name}: {a} and {b}; {c} and {d}");
         }
         let heads: String = LEFT.iter().map(|n| format!("{n:>9}")).collect();
         println!("accepted reads of burstCount by the bytes left");
@@ -131,11 +152,16 @@ impl Limits {
                 missing.push(format!("FIFOs of {length} bytes with refusal {refusal}"));
             }
         }
-        for (name, counts) in COUNTED.iter().zip(&self.counts) {
-            let absent = COUNTS.iter().zip(counts).filter(|(_, count)| **count == 0);
-            missing.extend(absent.map(|((count, refusal), _)| {
-                format!("a PCR asked for with {count} bytes in {name} and refusal {refusal}")
-            }));
+        for (call, counts) in [
+            ("a PCR asked for", &self.asked),
+            ("a call with C = 8,192", &self.lent),
+        ] {
+            for (name, counts) in COUNTED.iter().zip(counts) {
+                let absent = COUNTS.iter().zip(counts).filter(|(_, count)| **count == 0);
+                missing.extend(absent.map(|((count, refusal), _)| {
+                    format!("{call}, {count} bytes counted in {name}, with refusal {refusal}")
+                }));
+            }
         }
         for (name, counts) in READS.iter().zip(&self.bursts) {
             let absent = LEFT.iter().zip(counts).filter(|(_, count)| **count == 0);
@@ -148,14 +174,14 @@ impl Limits {
 #[cfg(test)]
 mod tests {
     use super::*;
-    use crate::state::State;
 
-    fn before(phase: Phase, declared: u32) -> Before {
-        let mut state = State::fresh(8192, 0);
+    fn state(phase: Phase, declared: u32, write: usize, read: usize) -> State {
+        let mut state = State::fresh(write, 0);
+        state.read.resize(read, 0);
         state.device.active = Some(1);
         state.device.phase = phase;
         state.write[2..6].copy_from_slice(&declared.to_be_bytes());
-        Before::of(&state)
+        state
     }
 
     #[test]
@@ -170,47 +196,54 @@ mod tests {
             (1024, 1024, 0),
             (5000, 5000, 0),
         ] {
-            limits.count_lengths(&LentCall {
-                write,
-                read,
-                refusal,
-            });
+            let state = state(Phase::Idle, 0, write, read);
+            limits.count(&Before::of(&state), &Call::Reset, refusal, &state);
+            limits.count(&Before::of(&state), &Call::InterruptLine, refusal, &state);
         }
         assert_eq!(limits.lengths, [0, 1, 0, 0, 0, 1, 1, 0]);
     }
 
     #[test]
-    fn a_question_counts_for_its_phase_and_with_its_refusal() {
+    fn a_count_counts_for_its_phase_with_its_refusal_and_c() {
         let mut limits = Limits::default();
-        for (phase, refusal) in [
-            (Phase::Reception(8192), 0),
-            (Phase::Reception(8192), 6),
-            (Phase::Execution(8193), 6),
-            (Phase::Completion(8192, 8191), 0),
-            (Phase::Completion(8191, 0), 0),
-            (Phase::Ready, 0),
+        for (phase, refusal, c) in [
+            (Phase::Reception(8192), 0, 8192),
+            (Phase::Reception(8192), 6, 8192),
+            (Phase::Execution(8193), 6, 1024),
+            (Phase::Completion(8192, 8191), 0, 8192),
+            (Phase::Completion(8191, 0), 0, 8192),
+            (Phase::Ready, 0, 8192),
         ] {
-            limits.count_question(&before(phase, 0), refusal);
+            let state = state(phase, 0, c, c);
+            for call in [
+                Call::PcrValue { pcr: 23 },
+                Call::PcrValue { pcr: 24 },
+                Call::Window,
+            ] {
+                limits.count(&Before::of(&state), &call, refusal, &state);
+            }
         }
-        assert_eq!(limits.counts, [[1, 0], [0, 1], [1, 0]]);
+        assert_eq!(limits.asked, [[1, 0], [0, 1], [1, 0]]);
+        assert_eq!(limits.lent, [[1, 0], [0, 0], [1, 0]]);
     }
 
     #[test]
     fn a_read_counts_for_the_bytes_left_and_its_byte() {
         let mut limits = Limits::default();
-        let sent = before(Phase::Reception(7680), 8192);
-        let done = before(Phase::Reception(7680), 7680);
-        let read = before(Phase::Completion(600, 89), 0);
-        for (before, offset) in [
-            (&sent, 0x1019),
-            (&sent, 0x101a),
-            (&sent, 0x1018),
-            (&sent, 0x0019),
-            (&done, 0x101a),
-            (&read, 0x1019),
-            (&read, 0x101b),
+        let sent = state(Phase::Reception(7680), 8192, 8192, 8192);
+        let done = state(Phase::Reception(7680), 7680, 8192, 8192);
+        let read = state(Phase::Completion(600, 89), 0, 8192, 8192);
+        for (state, offset, refusal) in [
+            (&sent, 0x1019, 0),
+            (&sent, 0x101a, 0),
+            (&sent, 0x1018, 0),
+            (&sent, 0x0019, 0),
+            (&sent, 0x1019, 6),
+            (&done, 0x101a, 0),
+            (&read, 0x1019, 0),
+            (&read, 0x101b, 0),
         ] {
-            limits.count_read(before, offset, 8192);
+            limits.count(&Before::of(state), &Call::Read { offset }, refusal, state);
         }
         let rows = [
             [0, 0, 0, 0, 0, 0, 1, 0],
@@ -219,6 +252,6 @@ mod tests {
             [0; 8],
         ];
         assert_eq!(limits.bursts, rows);
-        assert_eq!(limits.missing().len(), 8 + 6 + 32 - 4);
+        assert_eq!(limits.missing().len(), 8 - 1 + 12 + 32 - 4);
     }
 }

@@ -34,7 +34,7 @@ impl Scene<'_> {
     /// Some bytes sent or read with burstCount looked at before each, from records near a turn of it.
     pub fn bursts(&mut self) {
         for _ in 0..8 {
-            let (c, left) = (self.c(), self.random.pick(&LEFT));
+            let (c, left) = (self.c_for_few(), self.random.pick(&LEFT));
             let sends = self.random.coin();
             let (phase, write) = match sends {
                 true => self.sending(c, left),

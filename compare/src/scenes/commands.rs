@@ -156,7 +156,7 @@ impl Scene<'_> {
     /// A command about to go, with run numbers around their end and counts around C.
     pub fn runs(&mut self) {
         for _ in 0..8 {
-            let c = self.c();
+            let c = self.c_for_few();
             let mut write = self.fifo(c);
             let size = match self.random.below(4) {
                 0 => self.random.within(10, 16),

@@ -11,7 +11,7 @@ impl Scene<'_> {
     pub fn near_shape(&mut self) {
         for clause in CLAUSES {
             let met = self.random.coin();
-            let c = self.c();
+            let c = self.c_for_few();
             let device = records::near(self.random, clause, met, c as u16);
             // Refusal 2 comes before 6.
             let odd = self.random.once_in(4);

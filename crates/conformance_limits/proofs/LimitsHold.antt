@@ -1,8 +1,8 @@
 -- The limits hold as the papers' numerals say, by computation. Assumes nothing.
 use Prim.Native.Nat.{ℕ}
-use mathlib.Core.Path.{_≡_, refl, sym, ap, subst}
+use mathlib.Core.Path.{_≡_, refl, sym, ap, subst, _∙_}
 use mathlib.Core.Bool.{Bool, true, false, cond, not, _&&_}
-use mathlib.Core.List.{List, []}
+use mathlib.Core.List.{List, [], _∷_}
 use lib.Dec.{eqb, leb}
 use lib.ListN.{length}
 use Rattle.pcr.specs.Bank.{valueAt, allBytes}
@@ -26,7 +26,7 @@ use Rattle.claims.specs.Calls as call
 use Rattle.claims.specs.Calls.{State, state, Answer, Called, called}
 use Rattle.claims.proofs.Steps.{Step}
 use Rattle.claims.proofs.Bridge.{step-called}
-use Rattle.conformance_limits.specs.Limits.{lengthsRefusal, Lengths, inPhase, asked, Counts, lent, Bursts, ready, sending, reading, LimitsClaim}
+use Rattle.conformance_limits.specs.Limits.{lengthsRefusal, Lengths, inPhase, asked, Counts, declaring, Burst, gives, Bursts, ready, sending, sendingLess, sendingNear, reading, LimitsClaim}
 
 lengths-hold : Lengths
 unfolding powerOn lengthsAllowed
@@ -49,17 +49,24 @@ counts-hold d = record {
     by true = refl
     by false = refl
 
-bursts-hold : (d : Device) → Bursts (λ n. lent d Ready) ready × Bursts (λ n. lent d (Reception n)) sending × Bursts (λ n. lent d (Completion 8192 n)) reading
+sends-hold : (d : Device) → Bursts (λ n. declaring 0x20 0x00 d (Reception n)) sending × Bursts (λ n. declaring 0x17 0x70 d (Reception n)) sendingLess
+    × Bursts (λ n. declaring 0x1f 0x40 d (Reception n)) sendingNear
 unfolding read readCycle acceptedRead busRefusal lentRefusal lengthsAllowed inShape registerAt registerRead resolve declaredSize stsByte
-bursts-hold d = (refl, refl, refl)
+sends-hold d = (refl, refl, refl)
+
+others-hold : (d : Device) → Bursts (λ n. declaring 0x00 0x00 d Ready) ready × Bursts (λ n. declaring 0x00 0x00 d (Completion 8192 n)) reading
+unfolding read readCycle acceptedRead busRefusal lentRefusal lengthsAllowed inShape registerAt registerRead resolve declaredSize stsByte
+others-hold d = (refl, refl)
 
 pub limits-hold : LimitsClaim
 limits-hold = record {
   lengths = lengths-hold;
   counts = counts-hold;
-  whenReady = λ d. bursts-hold d .0;
-  whileSending = λ d. bursts-hold d .1;
-  whileReading = λ d. bursts-hold d .2;
+  whenReady = λ d. others-hold d .0;
+  whileSending = λ d. sends-hold d .0;
+  whileSendingLess = λ d. sends-hold d .1;
+  whileSendingNear = λ d. sends-hold d .2;
+  whileReading = λ d. others-hold d .1;
 }
 
 -- ---- on the calls' own contracts: whoever makes the calls by steps that they allow meets the same numbers
@@ -72,6 +79,27 @@ lengths-on-contracts d w r established identity p =
 pub asked-on-contracts : (d : Device) (q : Phase) {a : Answer} {s : State} → Step (call.pcrValue 0) (state (inPhase d q) [] []) a s → a .refusal ≡ asked d q
 asked-on-contracts d q p = sym (ap (λ (k : Called). k .answer .refusal) (step-called p))
 
--- a read of burstCount is answered as `heard` says
-pub read-on-contracts : (o : ℕ) (s : State) {a : Answer} {t : State} → Step (call.read o) s a t → a ≡ called (call.read o) s .answer
-read-on-contracts o s p = sym (ap (λ (k : Called). k .answer) (step-called p))
+-- each pair of reads gives the two bytes
+abbrev pub EachRead : (ℕ → State) → List Burst → Type 0
+EachRead s [] = Unit
+EachRead s (b ∷ l) =
+    ((a : Answer) (t : State) → Step (call.read 0x0019) (s (b .done)) a t → a ≡ gives (b .low))
+    × ((a : Answer) (t : State) → Step (call.read 0x001a) (s (b .done)) a t → a ≡ gives (b .high)) × EachRead s l
+
+-- the first of a list, its rest
+abbrev first : Answer → List Answer → Answer
+first d [] = d
+first d (a ∷ l) = a
+
+abbrev rest : List Answer → List Answer
+rest [] = []
+rest (a ∷ l) = l
+
+read-is : {o : ℕ} {s : State} {a b : Answer} {t : State} → Step (call.read o) s a t → called (call.read o) s .answer ≡ b → a ≡ b
+read-is p e = sym (ap (λ (k : Called). k .answer) (step-called p)) ∙ e
+
+pub bursts-on-contracts : (s : ℕ → State) (l : List Burst) → Bursts s l → EachRead s l
+bursts-on-contracts s [] e = tt
+bursts-on-contracts s (b ∷ l) e =
+    let second : _ = ap rest e in
+    (λ a t p. read-is p (ap (first (gives 0)) e), λ a t p. read-is p (ap (first (gives 0)) second), bursts-on-contracts s l (ap rest second))

@@ -53,9 +53,9 @@ pub record Counts (d : Device) : Type 0 where
 
 -- ---- burstCount, as a driver reads it
 
--- in that phase, with FIFOs of 8,192 bytes; the WriteFIFO has the head of a command of 8,192
-abbrev pub lent : Device → Phase → State
-lent d p = state (inPhase d p) (0x00 ∷ 0xc1 ∷ 0x00 ∷ 0x00 ∷ 0x20 ∷ 0x00 ∷ replicate 8186 0x00) (replicate 8192 0x00)
+-- in that phase, with FIFOs of 8,192 bytes; the WriteFIFO has the head of a command whose size ends in these two bytes
+abbrev pub declaring : ℕ → ℕ → Device → Phase → State
+declaring high low d p = state (inPhase d p) (0x00 ∷ 0xc1 ∷ 0x00 ∷ 0x00 ∷ high ∷ low ∷ replicate 8186 0x00) (replicate 8192 0x00)
 
 -- how many bytes are received or read, and what 0019 and 001A give then
 pub record Burst : Type 0 where
@@ -66,27 +66,39 @@ pub record Burst : Type 0 where
 abbrev pub burst : ℕ → ℕ → ℕ → Burst
 burst n l h = record { done = n; low = l; high = h }
 
--- what the two reads are answered, and what they should be: accepted, with the byte
-abbrev pub heard : (ℕ → State) → List Burst → List Answer
-heard s [] = []
-heard s (b ∷ l) = called (call.read 0x0019) (s (b .done)) .answer ∷ called (call.read 0x001a) (s (b .done)) .answer ∷ heard s l
+-- an accepted read that gives the byte
+abbrev pub gives : ℕ → Answer
+gives v = record { refusal = 0; value = byte v }
+
+-- what the two reads are answered in the state that each count leads to, and what they should be
+abbrev pub answersIn : (ℕ → State) → List Burst → List Answer
+answersIn s [] = []
+answersIn s (b ∷ l) = called (call.read 0x0019) (s (b .done)) .answer ∷ called (call.read 0x001a) (s (b .done)) .answer ∷ answersIn s l
 
 abbrev pub wanted : List Burst → List Answer
 wanted [] = []
-wanted (b ∷ l) = record { refusal = 0; value = byte (b .low) } ∷ record { refusal = 0; value = byte (b .high) } ∷ wanted l
+wanted (b ∷ l) = gives (b .low) ∷ gives (b .high) ∷ wanted l
 
 abbrev pub Bursts : (ℕ → State) → List Burst → Type 0
-Bursts s l = heard s l ≡ wanted l
+Bursts s l = answersIn s l ≡ wanted l
 
 -- "in Ready 512"
 abbrev pub ready : List Burst
 ready = burst 0 0x00 0x02 ∷ []
 
--- "in Reception while more is expected, the lesser of 512 and C minus the bytes received"
+-- "in Reception while more is expected, the lesser of 512 and C minus the bytes received": of a command of 8,192
 abbrev pub sending : List Burst
 sending =
     burst 1 0x00 0x02 ∷ burst 6 0x00 0x02 ∷ burst 7679 0x00 0x02 ∷ burst 7680 0x00 0x02 ∷ burst 7681 0xff 0x01 ∷ burst 7935 0x01 0x01 ∷ burst 7936 0x00 0x01
     ∷ burst 7937 0xff 0x00 ∷ burst 8191 0x01 0x00 ∷ burst 8192 0x00 0x00 ∷ []
+
+-- of a command of 6,000: C counts and not the declared size, and "otherwise 0" once no more is expected
+abbrev pub sendingLess : List Burst
+sendingLess = burst 5487 0x00 0x02 ∷ burst 5489 0x00 0x02 ∷ burst 5999 0x00 0x02 ∷ burst 6000 0x00 0x00 ∷ []
+
+-- of a command of 8,000: the room in C is below the cap, and the declared size nearer still
+abbrev pub sendingNear : List Burst
+sendingNear = burst 7800 0x88 0x01 ∷ burst 7999 0xc1 0x00 ∷ burst 8000 0x00 0x00 ∷ []
 
 -- "in Completion the lesser of 512 and the bytes unread": of an answer of 8,192
 abbrev pub reading : List Burst
@@ -99,6 +111,8 @@ reading =
 pub record LimitsClaim : Type 0 where
   pub lengths : Lengths
   pub counts : (d : Device) → Counts d
-  pub whenReady : (d : Device) → Bursts (λ n. lent d Ready) ready
-  pub whileSending : (d : Device) → Bursts (λ n. lent d (Reception n)) sending
-  pub whileReading : (d : Device) → Bursts (λ n. lent d (Completion 8192 n)) reading
+  pub whenReady : (d : Device) → Bursts (λ n. declaring 0x00 0x00 d Ready) ready
+  pub whileSending : (d : Device) → Bursts (λ n. declaring 0x20 0x00 d (Reception n)) sending
+  pub whileSendingLess : (d : Device) → Bursts (λ n. declaring 0x17 0x70 d (Reception n)) sendingLess
+  pub whileSendingNear : (d : Device) → Bursts (λ n. declaring 0x1f 0x40 d (Reception n)) sendingNear
+  pub whileReading : (d : Device) → Bursts (λ n. declaring 0x00 0x00 d (Completion 8192 n)) reading

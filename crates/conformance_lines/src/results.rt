@@ -39,7 +39,7 @@ pub fn show_power_on(s: Step, length: usize, refusal: u8) {
     named(s);
     say(b"power-on, C = ");
     count(length as u64);
-    say(b"          refusal   ");
+    say(b"h         refusal   ");
     compare(s.byte, refusal, true);
 }
 

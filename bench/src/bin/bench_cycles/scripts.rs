@@ -1,8 +1,10 @@
 //! The scripts of cycles that are timed.
 
+use yardstick::device::{FIFO_LENGTHS, GREATEST_C};
+
 /// The least and the greatest length of each lent FIFO.
-pub const LEAST: usize = 1024;
-pub const GREATEST: usize = 8192;
+pub const LEAST: usize = *FIFO_LENGTHS.start();
+pub const GREATEST: usize = GREATEST_C;
 
 /// Four bytes each: 0 reads, 1 writes, 2 answers; the offset, high byte first; the byte written.
 #[derive(Clone)]
