@@ -9,7 +9,7 @@ use bits::bit;
 use reg_layout::access::{ACTIVE_LOCALITY, BEEN_SEIZED, REQUEST_USE, SEIZE};
 
 // The counted bit of a byte written to ACCESS that stands alone.
-#[derive(Drop)]
+#[derive(Clone, Copy)]
 pub enum AccessCommand {
     Nothing,
     RequestUse,

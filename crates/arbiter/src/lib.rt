@@ -1,4 +1,6 @@
 // Which locality holds the device (document 01, 'Who holds the device'; TIS 11.3.10): types and rules on the arbiter state alone.
+#![tactic(auto)]
+
 ghost use Rattle.std.specs.Prelude.{◌≡◌, ◌<◌};
 ghost use Rattle.arbiter.specs.State.{localities, fresh_arbiter, with_active, with_waiting, with_seized};
 
@@ -9,17 +11,17 @@ pub mod transfer;
 pub const LOCALITIES: u8 = 5;
 
 // A locality number; a page's is at most 4, and a stored one may be anything.
-#[derive(Drop)]
+#[derive(Clone, Copy)]
 pub struct Locality(pub u8);
 
-#[derive(Drop)]
+#[derive(Clone, Copy)]
 pub enum Owner {
     Nobody,
     Held(Locality),
 }
 
 // The active locality, which localities wait, and which were seized.
-#[derive(Drop)]
+#[derive(Clone, Copy)]
 pub struct Arbiter {
     pub active: Owner,
     pub waiting: [bool; 5],
@@ -28,7 +30,7 @@ pub struct Arbiter {
 
 // What a rule leaves, and what follows from it: the owner's command is aborted, so both FIFOs are cleared and the phase is Idle (abort); a
 // handover served a waiting locality, so localityChange is set in INT_STATUS (locality_change).
-#[derive(Drop)]
+#[derive(Clone, Copy)]
 pub struct Change {
     pub arbiter: Arbiter,
     pub abort: bool,

@@ -1,4 +1,6 @@
 // A bit of a byte, read from it and put into it by its number.
+#![tactic(auto)]
+
 ghost use Rattle.std.specs.Prelude.{◌≡◌, ◌<◌, ◌≤◌, ◌^◌};
 ghost use Rattle.bits.specs.Bits.{bit as bit_spec, is_set, flag_at};
 

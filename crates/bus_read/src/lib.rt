@@ -1,4 +1,6 @@
 // An accepted read (document 01, 'The pages'): what each register gives, and what the read does to the phase.
+#![tactic(auto)]
+
 ghost use Rattle.std.specs.Prelude.{◌≡◌, ◌<◌, get_or};
 ghost use Rattle.arbiter.specs.State.{localities};
 ghost use Rattle.bus_read.specs.Reading.{read_sts, unmoved as unmoved_spec, read_data_fifo, register_read};
@@ -13,7 +15,7 @@ use reg_sts_read::size::expects;
 use reg_sts_read::sts::sts_byte;
 
 // What a read of a register gives, and the phase that it leaves.
-#[derive(Drop)]
+#[derive(Clone, Copy)]
 pub struct RegisterRead {
     pub byte: u8,
     pub phase: Phase,

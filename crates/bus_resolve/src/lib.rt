@@ -1,4 +1,6 @@
 // What an accepted write is: decided once, in document 01's order ('The waiting book', "first that applies").
+#![tactic(auto)]
+
 ghost use Rattle.std.specs.Prelude.{◌≡◌, cond, ◌≤◌};
 ghost use Rattle.reg_layout.specs.Offsets.{in_four, page_of, hash_start};
 ghost use Rattle.bus_resolve.specs.declared.WriteKind.TheVariants.{Ignored};
@@ -12,7 +14,7 @@ use reg_map::{Register, register_at};
 
 // A hash start that counts; the end of an open sequence; a byte for one; a write that nothing heeds; one that reaches a register: ACCESS of
 // any page, any other register of the active locality's page alone.
-#[derive(Drop)]
+#[derive(Clone, Copy)]
 pub enum WriteKind {
     HashStart,
     HashEnd,

@@ -1,4 +1,6 @@
 // An accepted write (document 01, 'The pages' to 'The launch hash'): what it does to control, phase and FIFOs.
+#![tactic(auto)]
+
 ghost use Rattle.std.specs.Prelude.{◌≡◌, ◌<◌};
 ghost use Rattle.arbiter.specs.State.{localities};
 ghost use Rattle.bus_write.specs.Effect.{ignored as ignored_spec, aborted as aborted_spec, changed_control, apply_change, apply_command, apply_interrupts};
@@ -16,7 +18,7 @@ use reg_sts_write::Commanded;
 use reg_sts_write::sts::{write_data_fifo, write_sts};
 
 // What a write leaves of control and phase, and what happens to the FIFOs.
-#[derive(Drop)]
+#[derive(Clone, Copy)]
 pub struct Effect {
     pub control: Control,
     pub phase: Phase,

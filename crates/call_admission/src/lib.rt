@@ -1,4 +1,6 @@
 // The tests of each call, in document 01's order (document 01, 'When the front says no').
+#![tactic(auto)]
+
 ghost use Rattle.std.specs.Prelude.{◌≡◌};
 ghost use Rattle.record_shape.specs.Shape.{view_of};
 ghost use Rattle.call_admission.specs.Refusals.{lent_refusal, bus_refusal, executes as executes_spec, answer_refusal, pcr_refusal};

@@ -1,5 +1,7 @@
 // Bus cycles: one read, one write. Each is decided on the parts of the record that it looks at, and the record is put into the outcome at
 // one place, so that no PCR is copied on the way.
+#![tactic(auto)]
+
 ghost use Rattle.std.specs.Prelude.{◌≡◌};
 ghost use Rattle.record_shape.specs.Shape.{shape_view};
 ghost use Rattle.call_admission.specs.Refusals.{bus_refusal};

@@ -16,7 +16,7 @@ use reg_map::register_at;
 use reg_sts_read::size::declared_size;
 
 // What a read comes to: of the record only the phase may change.
-#[derive(Drop)]
+#[derive(Clone, Copy)]
 pub struct ReadCycle {
     pub refusal: u8,
     pub byte: u8,

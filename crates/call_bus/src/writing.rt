@@ -17,7 +17,7 @@ use reg_sts_read::size::declared_size;
 use reg_sts_write::completion::BAD_SIZE;
 
 // What a write comes to but for the hash sequence and the PCRs, which its kind changes; the kind of a refused one is Ignored.
-#[derive(Drop)]
+#[derive(Clone, Copy)]
 pub struct WriteCycle {
     pub refusal: u8,
     pub kind: WriteKind,

@@ -1,4 +1,6 @@
 // Power-on and reset (document 01, 'What the device record carries').
+#![tactic(auto)]
+
 ghost use Rattle.call_outcome.specs.Result.{Leaves};
 ghost use Rattle.call_power.specs.Power.{power_on, reset as reset_spec};
 

@@ -1,4 +1,6 @@
 // The questions asked of the record, and of the permission table (document 01).
+#![tactic(auto)]
+
 ghost use Rattle.std.specs.Prelude.{◌≡◌, cond, eqb};
 ghost use Rattle.pcr.specs.Permission.{permission, may_reset, may_extend};
 ghost use Rattle.call_admission.specs.Refusals.{lent_refusal_of};
@@ -11,14 +13,14 @@ use record::{Device, Phase};
 use record_shape::{Lengths, view_of};
 use reg_interrupts::line_asserted;
 
-#[derive(Drop)]
+#[derive(Clone, Copy)]
 pub struct PcrOutcome {
     pub refusal: u8,
     pub value: [u8; 20],
 }
 
 // The part of a FIFO that is in use: of which FIFO, from where to where.
-#[derive(Drop)]
+#[derive(Clone, Copy)]
 pub struct Span {
     pub reading: bool,
     pub start: usize,

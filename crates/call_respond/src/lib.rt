@@ -1,4 +1,6 @@
 // The engine's answer (document 01, 'Commands').
+#![tactic(auto)]
+
 ghost use Rattle.std.specs.Prelude.{◌≡◌, ◌<◌, ◌≤◌, length};
 ghost use Rattle.record_shape.specs.Shape.{shape_view};
 ghost use Rattle.call_admission.specs.Refusals.{answer_refusal};
@@ -14,7 +16,7 @@ use reg_fifo::{FifoAction, update_fifos};
 use reg_sts_write::completion::enter_completion;
 
 // What an answer comes to; identity, hash sequence and PCRs stay.
-#[derive(Drop)]
+#[derive(Clone, Copy)]
 pub struct AnswerCycle {
     pub refusal: u8,
     pub control: Control,

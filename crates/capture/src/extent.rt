@@ -6,7 +6,7 @@ use crate::head::{agrees, body, head_good};
 use crate::records::{count, word_for};
 use crate::{HEAD_BYTES, RECORD_BYTES, Word};
 
-#[derive(Drop)]
+#[derive(Clone, Copy)]
 pub struct Scanned {
     pub cycles: usize,
     pub word: Word,

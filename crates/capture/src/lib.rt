@@ -1,4 +1,6 @@
 // A capture of cycles (document 02, W1): its head, its records, how many of them are played within a limit, and the word for what is left.
+#![tactic(auto)]
+
 pub mod extent;
 pub mod head;
 pub mod records;
@@ -13,7 +15,7 @@ pub const HEAD_BYTES: usize = 5;
 pub const RECORD_BYTES: usize = 4;
 
 // A record.
-#[derive(Drop)]
+#[derive(Clone, Copy)]
 pub struct Cycle {
     pub kind: u8,
     pub offset: u16,
@@ -21,7 +23,7 @@ pub struct Cycle {
 }
 
 // What is printed for what is not played: no word, or one of four.
-#[derive(Drop)]
+#[derive(Clone, Copy)]
 pub enum Word {
     Nothing,
     Budget,

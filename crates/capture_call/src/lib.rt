@@ -1,4 +1,6 @@
 // One record as a call. An outcome has FFh for its byte unless the call is a read.
+#![tactic(auto)]
+
 ghost use Rattle.claims.specs.Calls.{state, called, write as write_call, reset as reset_call, respond as respond_call};
 ghost use Rattle.capture_play.specs.Play.{engine_answer, call_of, Gives};
 

@@ -1,5 +1,7 @@
 // What is printed for a capture (document 02, W1): it is played within its limit, and each record's answer, the word and the count are put into a
 // lent slice.
+#![tactic(auto)]
+
 ghost use Rattle.text.specs.Text.{Puts};
 ghost use Rattle.capture_text.specs.Output.{output};
 

@@ -1,5 +1,7 @@
 // Plays a capture (document 02, W1) through the public calls, within a limit on the cycles, and gives each record's answer, their count and the
 // word for what is not played.
+#![tactic(auto)]
+
 ghost use Rattle.std.specs.Prelude.{◌≡◌};
 ghost use Rattle.claims.specs.Calls.{state};
 ghost use Rattle.capture_play.specs.Play.{powered, Plays};
@@ -12,7 +14,7 @@ pub mod records;
 
 use records::play_records;
 
-#[derive(Drop)]
+#[derive(Clone, Copy)]
 pub struct Played {
     pub cycles: usize,
     pub word: Word,

@@ -1,4 +1,6 @@
 // The lines: one for each record, the word, the count.
+#![tactic(auto)]
+
 ghost use Rattle.std.specs.Prelude.{◌+◌, ◌*◌, ◌≤◌, ◌<◌, length, get_or, take};
 ghost use Rattle.text.specs.Text.{Puts};
 ghost use Rattle.capture_text.specs.Output.{line_of, lines_of, word_text, cycles_text, last_text, text_of};

@@ -14,8 +14,8 @@ use Rattle.arbiter.specs.declared.Owner.TheVariants.{Nobody, Held}
 use Rattle.arbiter_model.specs.Model.{Model, step, fresh}
 use Rattle.arbiter_model.specs.Waits.{run}
 use Rattle.sha1_block.specs.Sha1.{sha1}
-use Rattle.sha1.specs.Stream.{nothing as no_stream, begin, join_all, finish}
-use Rattle.sha1.proofs.StreamLaws.{digest}
+use Rattle.sha1_message.specs.Stream.{nothing as no_stream, begin, join_all, finish}
+use Rattle.sha1_message.proofs.StreamLaws.{digest}
 use Rattle.pcr.specs.Bank.{pcrs, pcr, no_pcr, value_at}
 use Rattle.pcr.specs.declared.Pcr.{Pcr}
 use Rattle.pcr.proofs.BankAt.{fresh_at, launched_at, replaced_at}

@@ -18,10 +18,10 @@ use Rattle.arbiter.specs.Agreement.{Agrees, holder}
 use Rattle.arbiter.specs.declared.Arbiter.{Arbiter}
 use Rattle.arbiter.specs.declared.Owner.{Owner}
 use Rattle.arbiter.specs.declared.Owner.TheVariants.{Nobody, Held}
-use Rattle.sha1.specs.declared.Stream.{Stream}
+use Rattle.sha1_message.specs.declared.Stream.{Stream}
 use Rattle.sha1_block.specs.Sha1.{sha1}
-use Rattle.sha1.specs.Stream.{nothing as no_stream, begin, join, finish}
-use Rattle.sha1.proofs.StreamLaws.{all_none, all_snoc, digest}
+use Rattle.sha1_message.specs.Stream.{nothing as no_stream, begin, join, finish}
+use Rattle.sha1_message.proofs.StreamLaws.{all_none, all_snoc, digest}
 use Rattle.pcr.specs.Bank as bank
 use Rattle.pcr.specs.Bank.{pcrs, pcr, all_bytes, value_at, replaced, with_dynamic, launched}
 use Rattle.pcr.specs.declared.Pcr.{Pcr}

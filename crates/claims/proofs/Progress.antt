@@ -25,7 +25,7 @@ use Rattle.arbiter.proofs.Cases.{AccessCase, access_case}
 use Rattle.arbiter_model.specs.Model.{Model, held, fresh}
 use Rattle.arbiter_model.proofs.ModelLaws.{not_free, held_same}
 use Rattle.arbiter_model.proofs.Invariant.{Sound}
-use Rattle.sha1.specs.Stream.{join}
+use Rattle.sha1_message.specs.Stream.{join}
 use Rattle.record.specs.Limits.{fifo_least, fifo_greatest, hash_limit}
 use Rattle.record.specs.Record.{fresh_device}
 use Rattle.record.specs.declared.Device.{Device}

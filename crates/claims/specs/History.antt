@@ -2,7 +2,7 @@
 -- and their refusal numbers, through the books. Assumes nothing.
 use Rattle.std.specs.Prelude.{ℕ, zero, suc, ◌≡◌, cond, List, [], ◌∷◌, ◌++◌, length, replicate, eqb}
 use Rattle.sha1_block.specs.Sha1.{sha1}
-use Rattle.sha1.specs.Stream.{nothing as no_stream, begin, join_all}
+use Rattle.sha1_message.specs.Stream.{nothing as no_stream, begin, join_all}
 use Rattle.pcr.specs.Bank.{pcr}
 use Rattle.arbiter.specs.State.{locality}
 use Rattle.arbiter.specs.declared.Owner.{Owner}

@@ -4,7 +4,7 @@ use Rattle.std.specs.Prelude.{ℕ, ◌≡◌, Bool, true, false, cond, ◌||◌,
 use Rattle.reg_layout.specs.Offsets.{within}
 use Rattle.refusal.specs.Refusal.{accepted}
 use Rattle.sha1_block.specs.Sha1.{sha1}
-use Rattle.sha1.specs.Stream.{nothing as no_stream, begin, join_all}
+use Rattle.sha1_message.specs.Stream.{nothing as no_stream, begin, join_all}
 use Rattle.pcr.specs.Bank.{pcrs, all_bytes, value_at, replaced}
 use Rattle.pcr.specs.declared.Pcr.{Pcr}
 use Rattle.record.specs.declared.Launch.{Launch}

@@ -1,1 +1,2 @@
 // What holds over whole lists of calls: statements and theorems alone, no code.
+#![tactic(auto)]

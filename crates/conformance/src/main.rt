@@ -1,4 +1,6 @@
 // Plays the bench sheet of its standard input through the public calls, a line for each cycle that it checks.
+#![tactic(auto)]
+
 use conformance_calls::LONGEST;
 use libc::STDIN_FILENO;
 

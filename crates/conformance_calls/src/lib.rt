@@ -1,4 +1,6 @@
 // The calls that a line of the sheet names, each with the line that shows what it gave.
+#![tactic(auto)]
+
 use arbiter::Locality;
 use conformance_lines::line::{Step, answer, free_bytes, front, place, times};
 use conformance_lines::results::{
@@ -13,14 +15,14 @@ use record::limits::FIFO_GREATEST;
 pub const LONGEST: usize = 9000;
 
 // What is left after many writes, and the bits of all their refusal numbers: 0 where each was accepted.
-#[derive(Drop)]
+#[derive(Clone, Copy)]
 struct Sent {
     device: Device,
     refusals: u8,
 }
 
 // What is left after many reads, the bits in which any byte differs from the one expected, and the bits of all their refusal numbers.
-#[derive(Drop)]
+#[derive(Clone, Copy)]
 struct Received {
     device: Device,
     differences: u8,
@@ -183,7 +185,7 @@ fn digest(part: &[u8]) -> [u8; 40] {
     if part.len() > FIFO_GREATEST as usize {
         return [b'-'; 40];
     }
-    sha1_text::hex(sha1::hash(part))
+    sha1_text::hex(sha1_message::hash(part))
 }
 
 // The window has as many bytes as the offset says, with that digest; the refusal number expected is the line's byte.

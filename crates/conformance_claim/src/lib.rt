@@ -1,1 +1,2 @@
 // Document 01's bench sheet as one claim, proved by computation: definitions and theorems alone, no code.
+#![tactic(auto)]

@@ -1,7 +1,7 @@
 // A line of the sheet: 22 characters that name the entry, a letter that says what is done, an offset, a byte, and up to 40 characters more.
 ghost use Rattle.std.specs.Prelude.{◌<◌, ◌≤◌};
 
-#[derive(Drop)]
+#[derive(Clone, Copy)]
 pub struct Step {
     pub label: [u8; 22],
     pub kind: u8,

@@ -1,5 +1,7 @@
 // A monitor in small: it powers the device on, passes on the bus cycles of a guest's driver, lets an engine of its own answer the command
 // that comes, and prints each of these. What a monitor does with the front is in `monitor.rt`; the guest and the engine are made up.
+#![tactic(auto)]
+
 use record::Device;
 
 mod engine;

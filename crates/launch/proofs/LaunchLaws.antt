@@ -7,7 +7,7 @@ use borrow.Author.Tests.{leb-false}
 use Rattle.pcr.specs.Bank.{value_at, replaced}
 use Rattle.pcr.specs.declared.Pcr.{Pcr}
 use Rattle.sha1_block.specs.Sha1.{sha1}
-use Rattle.sha1.specs.Stream.{finish}
+use Rattle.sha1_message.specs.Stream.{finish}
 use Rattle.record.specs.Limits.{hash_limit}
 use Rattle.record.specs.declared.Launch.{Launch}
 use Rattle.bus_resolve.specs.declared.WriteKind.{WriteKind}

@@ -3,7 +3,7 @@ use Rattle.std.specs.Prelude.{ℕ, Bool, true, false, List, ◌++◌, leb}
 use Rattle.pcr.specs.Bank.{value_at, replaced, launched}
 use Rattle.pcr.specs.declared.Pcr.{Pcr}
 use Rattle.sha1_block.specs.Sha1.{sha1}
-use Rattle.sha1.specs.Stream.{begin, join, finish}
+use Rattle.sha1_message.specs.Stream.{begin, join, finish}
 use Rattle.record.specs.Limits.{hash_limit}
 use Rattle.record.specs.Record.{closed_launch}
 use Rattle.record.specs.declared.Launch.{Launch}

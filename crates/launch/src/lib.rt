@@ -1,4 +1,6 @@
 // The launch hash (document 01, 'The launch hash'; TIS 8) on the hash sequence and the PCRs.
+#![tactic(auto)]
+
 ghost use Rattle.std.specs.Prelude.{◌≡◌, ◌+◌, ◌<◌, ◌^◌, true};
 ghost use Rattle.bus_resolve.specs.declared.WriteKind.TheVariants.{HashData};
 ghost use Rattle.launch.specs.Launch.{hash_step, overlong as overlong_spec, begun_launch, joined as joined_spec, launch_after, measured as measured_spec, pcrs_after};
@@ -42,7 +44,7 @@ fn begun_launch() -> Launch
 {
     Launch {
         sequence: true,
-        stream: sha1::begin(),
+        stream: sha1_message::begin(),
     }
 }
 
@@ -53,7 +55,7 @@ fn joined(l: Launch, v: u8) -> Launch
     let s = l.stream;
     Launch {
         sequence: l.sequence,
-        stream: sha1::join(s, v),
+        stream: sha1_message::join(s, v),
     }
 }
 
@@ -74,9 +76,9 @@ fn measured(bank: [Pcr; 24], l: Launch) -> [Pcr; 24]
     ensures { result ≡ measured_spec bank l }
 {
     let s = l.stream;
-    let digest = sha1::finish(s);
+    let digest = sha1_message::finish(s);
     let value = pcr::bank::value_at(bank, LAUNCH_PCR);
-    pcr::bank::replaced(bank, LAUNCH_PCR, sha1::extend(value, digest))
+    pcr::bank::replaced(bank, LAUNCH_PCR, sha1_message::extend(value, digest))
 }
 
 pub fn pcrs_after(k: WriteKind, l: Launch, bank: [Pcr; 24]) -> [Pcr; 24]

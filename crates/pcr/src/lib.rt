@@ -1,20 +1,22 @@
 // The 24 PCRs: who may reset and extend each (`table`), and their values (`bank`).
+#![tactic(auto)]
+
 pub mod bank;
 pub mod table;
 
 pub const PCRS: usize = 24;
 
 // A type of its own, so that no locality is taken for a PCR.
-#[derive(Drop)]
+#[derive(Clone, Copy)]
 pub struct PcrIndex(pub u8);
 
-#[derive(Drop)]
+#[derive(Clone, Copy)]
 pub struct Pcr {
     pub bytes: [u8; 20],
 }
 
 // The answer to a permission question, beside its refusal number.
-#[derive(Drop)]
+#[derive(Clone, Copy)]
 pub struct Permission {
     pub refusal: u8,
     pub allowed: bool,

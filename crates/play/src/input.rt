@@ -9,7 +9,7 @@ use libc::STDIN_FILENO;
 pub const CAPTURE_BYTES: usize = 40_006;
 
 // How many bytes came, and whether a read failed before they decided.
-#[derive(Drop)]
+#[derive(Clone, Copy)]
 pub struct Got {
     pub bytes: usize,
     pub failed: bool,

@@ -1,4 +1,6 @@
 // Plays a capture of its standard input and prints what document 02, W1, says of it; docs/PLAY.md has the form.
+#![tactic(auto)]
+
 use capture_text::put_output;
 use libc::{STDERR_FILENO, STDOUT_FILENO};
 

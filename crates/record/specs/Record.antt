@@ -4,7 +4,7 @@ use Rattle.std.specs.Prelude.{ℕ, Bool, false, List}
 use Rattle.arbiter.specs.State.{fresh_arbiter}
 use Rattle.pcr.specs.Bank as bank
 use Rattle.pcr.specs.declared.Pcr.{Pcr}
-use Rattle.sha1.specs.Stream.{nothing}
+use Rattle.sha1_message.specs.Stream.{nothing}
 use Rattle.record.specs.declared.Phase.{Phase}
 use Rattle.record.specs.declared.Phase.TheVariants.{Idle}
 use Rattle.record.specs.declared.Causes.{Causes}

@@ -1,15 +1,17 @@
 // The device record (document 01, 'What the device record carries'), its limits and its fresh value.
+#![tactic(auto)]
+
 ghost use Rattle.std.specs.Prelude.{◌≡◌};
 ghost use Rattle.record.specs.Record.{no_causes, fresh_control, closed_launch, fresh_device, with_interrupts, hash_progress};
 
 use arbiter::Arbiter;
 use pcr::Pcr;
-use sha1::Stream;
+use sha1_message::Stream;
 
 pub mod limits;
 
 // The phase, with its counts: bytes received; bytes received; answer length and bytes read.
-#[derive(Drop)]
+#[derive(Clone, Copy)]
 pub enum Phase {
     Idle,
     Ready,
@@ -19,7 +21,7 @@ pub enum Phase {
 }
 
 // One flag for each interrupt.
-#[derive(Drop)]
+#[derive(Clone, Copy)]
 pub struct Causes {
     pub command_ready: bool,
     pub locality_change: bool,
@@ -27,7 +29,7 @@ pub struct Causes {
 }
 
 // INT_ENABLE's globalIntEnable and its three causes, and INT_STATUS.
-#[derive(Drop)]
+#[derive(Clone, Copy)]
 pub struct Interrupts {
     pub global: bool,
     pub enable: Causes,
@@ -35,7 +37,7 @@ pub struct Interrupts {
 }
 
 // What an ordinary cycle may change besides the phase; small, so that no PCR is copied on its way.
-#[derive(Drop)]
+#[derive(Clone, Copy)]
 pub struct Control {
     pub arbiter: Arbiter,
     pub interrupts: Interrupts,
@@ -44,20 +46,20 @@ pub struct Control {
 }
 
 // The hash sequence: whether one is open, and its stream, which is `nothing` while none is.
-#[derive(Drop)]
+#[derive(Clone, Copy)]
 pub struct Launch {
     pub sequence: bool,
     pub stream: Stream,
 }
 
 // What of the hash sequence is asked before a call: no word and no byte of the stream.
-#[derive(Drop)]
+#[derive(Clone, Copy)]
 pub struct HashProgress {
     pub sequence: bool,
     pub count: u32,
 }
 
-#[derive(Drop)]
+#[derive(Clone, Copy)]
 pub struct Device {
     pub control: Control,
     pub phase: Phase,
@@ -108,7 +110,7 @@ pub fn closed_launch() -> Launch
 {
     Launch {
         sequence: false,
-        stream: sha1::nothing(),
+        stream: sha1_message::nothing(),
     }
 }
 

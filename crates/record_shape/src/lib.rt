@@ -1,4 +1,6 @@
 // The shape rule (document 01, 'When the front says no', 6) on the parts of the record that it reads, and refusal 2.
+#![tactic(auto)]
+
 ghost use Rattle.std.specs.Prelude.{◌≡◌};
 ghost use Rattle.record_shape.specs.Shape.{shape_view, view_of, lengths_allowed, idle as idle_spec, phase_fits, hash_fits, in_shape};
 
@@ -9,14 +11,14 @@ use record::{Control, Device, HashProgress, Phase, hash_progress};
 use reg_layout::HASH_LOCALITY;
 
 // The lengths of the two lent FIFOs.
-#[derive(Drop)]
+#[derive(Clone, Copy)]
 pub struct Lengths {
     pub write: usize,
     pub read: usize,
 }
 
 // What the shape rule reads of a record.
-#[derive(Drop)]
+#[derive(Clone, Copy)]
 pub struct ShapeView {
     pub arbiter: Arbiter,
     pub phase: Phase,

@@ -1,4 +1,5 @@
 // The numbers of document 01's table 'When the front says no', each named once.
+#![tactic(auto)]
 
 pub const ACCEPTED: u8 = 0;
 

@@ -1,4 +1,6 @@
 // What ACCESS reads (document 01, 'Who holds the device'; document 02, W2; TIS 11.3.10).
+#![tactic(auto)]
+
 ghost use Rattle.std.specs.Prelude.{◌≡◌, ◌<◌};
 ghost use Rattle.arbiter.specs.State.{localities};
 ghost use Rattle.reg_access.specs.Access.{pending_request, access_bits, access_byte};

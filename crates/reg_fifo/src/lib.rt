@@ -1,4 +1,6 @@
 // The two lent FIFOs (document 01, 'Commands'): cleared, filled with an answer, written and read.
+#![tactic(auto)]
+
 ghost use Rattle.std.specs.Prelude.{◌≡◌, ◌≤◌, length};
 ghost use Rattle.record.specs.declared.Phase.TheVariants.{Completion};
 ghost use Rattle.reg_fifo.specs.declared.FifoAction.TheVariants.{Store};
@@ -8,7 +10,7 @@ use record::Phase;
 
 // What happens to the two FIFOs: nothing; both are cleared; the byte written goes to a place of the WriteFIFO; Completion is entered, so the
 // WriteFIFO is cleared and the ReadFIFO holds the answer.
-#[derive(Drop)]
+#[derive(Clone, Copy)]
 pub enum FifoAction {
     Keep,
     Clear,

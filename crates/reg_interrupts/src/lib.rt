@@ -1,5 +1,7 @@
 // The interrupt registers (document 01, 'Interrupts'; TIS 12): what they read and store, how a cause is set, the line, and the capability
 // byte.
+#![tactic(auto)]
+
 ghost use Rattle.std.specs.Prelude.{◌≡◌, ◌≤◌};
 ghost use Rattle.reg_interrupts.specs.Interrupts.{cause_bits, enable_byte, status_byte, capability_byte, causes_of, write_enable, write_status, mark as mark_spec, line_asserted};
 

@@ -1,4 +1,6 @@
 // Where the registers lie and which bits they have, by the names of TIS 1.2 (sections 8, 10 to 12); `specs` has the same names.
+#![tactic(auto)]
+
 pub mod access;
 pub mod interrupt;
 pub mod sts;

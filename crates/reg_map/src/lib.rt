@@ -1,4 +1,6 @@
 // Which register lies where in a page (document 01, 'The pages'; TIS section 10).
+#![tactic(auto)]
+
 ghost use Rattle.std.specs.Prelude.{◌≡◌, cond, eqb, ltb};
 ghost use Rattle.reg_map.specs.declared.Register.TheVariants.{Sts, Reserved};
 ghost use Rattle.reg_map.specs.Map.{register_at, identity_at};
@@ -8,7 +10,7 @@ use reg_layout::{
 };
 
 // A register of a page; the number is the byte within it, low byte first. A read knows no others, so hash start and end are not here.
-#[derive(Drop)]
+#[derive(Clone, Copy)]
 pub enum Register {
     Access,
     IntEnable(u8),

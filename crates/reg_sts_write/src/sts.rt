@@ -13,7 +13,7 @@ use reg_layout::sts::{COMMAND_READY, RESPONSE_RETRY, TPM_GO};
 use reg_sts_read::size::expects_after;
 
 // The counted bit of a byte written to STS that stands alone.
-#[derive(Drop)]
+#[derive(Clone, Copy)]
 pub enum StsCommand {
     Nothing,
     CommandReady,

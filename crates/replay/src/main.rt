@@ -1,4 +1,6 @@
 // Plays a list of calls from standard input through the public calls and writes each outcome; docs/REPLAY.md has the form.
+#![tactic(auto)]
+
 ghost use Rattle.std.specs.Prelude.{◌≡◌, ◌+◌, ◌≤◌, length};
 
 use replay_form::frame::{Fault, next_call};
@@ -6,7 +8,7 @@ use replay_form::tape::{ROOM, Tape, moved, ready};
 use replay_form::{LONGEST, fault, tape};
 use replay_state::{State, play};
 
-#[derive(Drop)]
+#[derive(Clone, Copy)]
 struct Progress {
     tape: Tape,
     state: State,

@@ -4,7 +4,7 @@ ghost use Rattle.std.specs.Prelude.{◌≡◌, ◌≤◌, length};
 use crate::fields::{byte_at, u16_at};
 use crate::{FLAGS, IMAGE, LONGEST, PHASE};
 
-#[derive(Drop)]
+#[derive(Clone, Copy)]
 pub enum Fault {
     Nothing,
     Cut,
@@ -17,7 +17,7 @@ pub enum Fault {
 }
 
 // The bytes of a call, opcode included: 0 where the stream has a fault.
-#[derive(Drop)]
+#[derive(Clone, Copy)]
 pub struct Frame {
     pub size: usize,
     pub fault: Fault,

@@ -1,4 +1,6 @@
 // The form in which calls come and outcomes go (docs/REPLAY.md): numbers at a place, the length of a call, the buffers, the faults of a stream.
+#![tactic(auto)]
+
 pub mod fault;
 pub mod fields;
 pub mod frame;

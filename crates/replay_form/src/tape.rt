@@ -11,7 +11,7 @@ const MARGIN: usize = 19000;
 
 // The bytes of the input that are not yet played, whether the input has ended, the bytes of the output that are not yet written, and whether
 // a read or a write failed.
-#[derive(Drop)]
+#[derive(Clone, Copy)]
 pub struct Tape {
     pub at: usize,
     pub end: usize,
@@ -54,7 +54,7 @@ fn shift(input: &mut [u8], at: usize, n: usize)
 }
 
 // How many bytes came, and whether the last read failed.
-#[derive(Drop)]
+#[derive(Clone, Copy)]
 struct Got {
     bytes: usize,
     failed: bool,

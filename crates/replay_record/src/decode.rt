@@ -7,7 +7,7 @@ use pcr::{PCRS, Pcr};
 use record::{Device, Phase};
 use replay_form::PHASE;
 use replay_form::fields::{byte_at, take, u16_at, u32_at};
-use sha1::Stream;
+use sha1_message::Stream;
 
 fn phase_of(kind: u8, n: u16, k: u16) -> Phase {
     match kind {

@@ -6,7 +6,7 @@ use pcr::{PCRS, Pcr};
 use record::{Control, Device, Phase};
 use replay_form::PHASE;
 use replay_form::fields::{put, put_all, put_u16, put_u32};
-use sha1::Stream;
+use sha1_message::Stream;
 
 fn locality_of(o: Owner) -> u8 {
     match o {

@@ -3,7 +3,7 @@ use arbiter::{Arbiter, Locality, Owner};
 use record::{Causes, Control, Interrupts, Launch};
 use replay_form::FLAGS;
 use replay_form::fields::{byte_at, put_flag};
-use sha1::Stream;
+use sha1_message::Stream;
 
 pub fn flags_at(image: &[u8]) -> [bool; FLAGS] {
     let mut f = [false; FLAGS];

@@ -1,4 +1,6 @@
 // A record as 603 bytes and back: the flags first, then the numbers and the bytes.
+#![tactic(auto)]
+
 mod decode;
 mod encode;
 mod flags;

@@ -1,4 +1,6 @@
 // The record and the lengths of the two FIFOs, as the next call finds them, and one call on them.
+#![tactic(auto)]
+
 use record::Device;
 use replay_form::IMAGE;
 use replay_form::fields::take;
@@ -12,7 +14,7 @@ mod turn;
 
 pub use turn::play;
 
-#[derive(Drop)]
+#[derive(Clone, Copy)]
 pub struct State {
     pub device: Device,
     pub write_length: usize,
@@ -20,7 +22,7 @@ pub struct State {
 }
 
 // What a call leaves, and how many bytes its outcome has.
-#[derive(Drop)]
+#[derive(Clone, Copy)]
 pub struct Played {
     pub state: State,
     pub put: usize,

@@ -5,7 +5,7 @@ ghost use Rattle.sha1_block.specs.Sha1.{round_by, rounds};
 use super::word::{ch, maj, parity, rotl};
 
 // The working variables.
-#[derive(Drop)]
+#[derive(Clone, Copy)]
 pub struct Vars {
     pub a: u32,
     pub b: u32,

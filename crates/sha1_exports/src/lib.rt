@@ -1,25 +1,27 @@
 // SHA-1 for callers that are not Rattle, on numbers and byte slices alone: what the benchmark links.
+#![tactic(auto)]
+
 ghost use Rattle.std.specs.Prelude.{◌≡◌, ◌<◌, ◌^◌, length};
 ghost use Rattle.sha1_block.specs.Sha1.{sha1};
 ghost use Rattle.sha1_exports.specs.Exports.{accepts, digest_in};
 
-use sha1::Stream;
+use sha1_message::Stream;
 
 // SHA-1 of a slice, a byte at a time, with the state in locals.
 fn by_byte(m: &[u8]) -> [u8; 20]
     requires { length m.now < 2 ^ 32 }
     ensures { result ≡ sha1 m.now }
 {
-    let s = sha1::begin();
+    let s = sha1_message::begin();
     let mut h = s.h;
     let mut tail = s.tail;
     let mut i: usize = 0;
     while i < m.len() {
-        let g = sha1::join_lent(h, i as u32, &mut tail, m[i]);
+        let g = sha1_message::join_lent(h, i as u32, &mut tail, m[i]);
         h = g;
         i += 1;
     }
-    sha1::finish(Stream {
+    sha1_message::finish(Stream {
         h,
         tail,
         count: i as u32,
@@ -38,7 +40,7 @@ pub extern "C" fn sha1_at_once(m: &[u8], out: &mut [u8]) -> bool
     if m.len() >= 0x2000_0000_0000_0000 {
         return false;
     }
-    let digest = sha1::hash(m);
+    let digest = sha1_message::hash(m);
     bytes::copy(&digest, out);
     true
 }

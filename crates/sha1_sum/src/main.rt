@@ -1,4 +1,6 @@
 // Writes the SHA-1 of each message of its standard input, where a message is a 16-bit length, high byte first, and that many bytes.
+#![tactic(auto)]
+
 ghost use Rattle.std.specs.Prelude.{◌<◌, ◌≤◌, length};
 
 use libc::{STDIN_FILENO, STDOUT_FILENO};
@@ -21,7 +23,7 @@ fn sum(body: &mut [u8]) -> bool
         say(b"truncated message\n");
         return false;
     }
-    say(&sha1_text::hex(sha1::hash(body)));
+    say(&sha1_text::hex(sha1_message::hash(body)));
     say(b"\n");
     true
 }

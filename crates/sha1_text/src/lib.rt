@@ -1,4 +1,6 @@
 // A digest as text.
+#![tactic(auto)]
+
 ghost use Rattle.std.specs.Prelude.{◌≡◌, ◌<◌};
 ghost use Rattle.sha1_text.specs.Text.{digit_of, hex_of};
 

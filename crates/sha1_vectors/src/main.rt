@@ -1,8 +1,10 @@
 // Hashes known messages, at once and by the stream, and shows each digest beside the one that is expected.
+#![tactic(auto)]
+
 ghost use Rattle.std.specs.Prelude.{◌≡◌, ◌+◌, ◌<◌, ◌^◌, length};
 
 use libc::STDOUT_FILENO;
-use sha1::Stream;
+use sha1_message::Stream;
 
 fn say(text: &[u8]) {
     io::write_all(STDOUT_FILENO, text);
@@ -31,7 +33,7 @@ fn join_all(s: Stream, m: &[u8]) -> Stream
     let mut g = s;
     let mut i: usize = 0;
     while i < m.len() {
-        g = sha1::join(g, m[i]);
+        g = sha1_message::join(g, m[i]);
         i += 1;
     }
     g
@@ -41,9 +43,9 @@ fn join_all(s: Stream, m: &[u8]) -> Stream
 fn both(name: &[u8], m: &[u8], expected: &[u8])
     requires { length m.now < 4096 }
 {
-    show(name, b"at once  ", sha1::hash(m), expected);
-    let s = join_all(sha1::begin(), m);
-    show(name, b"stream   ", sha1::finish(s), expected);
+    show(name, b"at once  ", sha1_message::hash(m), expected);
+    let s = join_all(sha1_message::begin(), m);
+    show(name, b"stream   ", sha1_message::finish(s), expected);
 }
 
 // The messages of FIPS 180 that fit in a buffer.
@@ -113,7 +115,7 @@ fn lengths() {
 // A million times 'a', a hundred at a time, by the stream alone.
 fn million() {
     let a = [b'a'; 100];
-    let mut s = sha1::begin();
+    let mut s = sha1_message::begin();
     let mut i: usize = 0;
     while i < 10_000 {
         s = join_all(s, &a);
@@ -122,7 +124,7 @@ fn million() {
     show(
         b"1,000,000 times 'a'   ",
         b"stream   ",
-        sha1::finish(s),
+        sha1_message::finish(s),
         b"34aa973cd4c4daa4f61eeb2bdbad27316534016f",
     );
 }

@@ -1,4 +1,6 @@
 // Text put into a lent slice from a place on, as far as there is room; each function gives the place behind it.
+#![tactic(auto)]
+
 ghost use Rattle.std.specs.Prelude.{◌≤◌, ◌<◌, ◌≡◌, [], ◌∷◌, length};
 ghost use Rattle.text.specs.Text.{decimal, hex_digit, hex_byte, Puts};
 

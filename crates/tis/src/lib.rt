@@ -1,4 +1,5 @@
 // The public calls of the register front. Each tests what it is handed and answers as document 01 names; none has a `requires`.
+#![tactic(auto)]
 
 pub use call_bus::{read, write};
 pub use call_outcome::{Outcome, ReadOutcome};

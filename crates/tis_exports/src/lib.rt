@@ -1,10 +1,12 @@
 // The register front for callers that are not Rattle: plays cycles from a slice, as often as asked. What the benchmark links.
+#![tactic(auto)]
+
 ghost use Rattle.std.specs.Prelude.{◌<◌};
 
 use record::Device;
 
 // What is left after playing the script, and the sum of the bytes and refusal numbers so far, which shows that nothing was skipped.
-#[derive(Drop)]
+#[derive(Clone, Copy)]
 struct Turn {
     device: Device,
     sum: u64,

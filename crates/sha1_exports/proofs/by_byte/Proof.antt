@@ -6,10 +6,10 @@ use native.Mathlib.Numerals.{add-one}
 use native.Mathlib.Omega.{arith}
 use lib.ListN.{length, get_or, take}
 use lib.Seq.{take-suc, take_all}
-use Rattle.sha1.specs.declared.Stream.{Stream}
+use Rattle.sha1_message.specs.declared.Stream.{Stream}
 use Rattle.sha1_block.specs.Sha1.{sha1}
-use Rattle.sha1.specs.Stream.{begin, join, join_all, finish}
-use Rattle.sha1.proofs.StreamLaws.{all_none, all_snoc, join_parts, digest}
+use Rattle.sha1_message.specs.Stream.{begin, join, join_all, finish}
+use Rattle.sha1_message.proofs.StreamLaws.{all_none, all_snoc, join_parts, digest}
 use borrow.Author.Rules.{rules}
 use Rattle.sha1_exports.proofs.by_byte.Statement.{statement}
 use Rattle.sha1_exports.proofs.by_byte.Tie as tie

@@ -1,7 +1,7 @@
 -- A stream that is begun has counted no byte. Assumes nothing.
 use mathlib.Core.Path.{ap}
 use native.Mathlib.Omega.{arith}
-use Rattle.sha1.specs.declared.Stream.{Stream}
+use Rattle.sha1_message.specs.declared.Stream.{Stream}
 use borrow.Author.Rules.{rules}
 use Rattle.sha1_vectors.proofs.both.Statement.{statement}
 use Rattle.sha1_vectors.proofs.both.Tie as tie

@@ -3,8 +3,8 @@ use mathlib.Core.Path.{◌≡◌, ap, ◌∙◌}
 use Prim.Native.Nat.{◌+◌, ◌-◌, ◌≤◌}
 use native.Mathlib.Omega.{arith}
 use lib.ListN.{length}
-use Rattle.sha1.specs.declared.Stream.{Stream}
-use Rattle.sha1.proofs.StreamLaws.{join_count}
+use Rattle.sha1_message.specs.declared.Stream.{Stream}
+use Rattle.sha1_message.proofs.StreamLaws.{join_count}
 use borrow.Author.Rules.{rules}
 use Rattle.sha1_vectors.proofs.join_all.Statement.{statement}
 use Rattle.sha1_vectors.proofs.join_all.Tie as tie

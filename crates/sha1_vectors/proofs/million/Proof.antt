@@ -2,7 +2,7 @@
 use mathlib.Core.Path.{◌≡◌, ap}
 use Prim.Native.Nat.{◌-◌, ◌*◌, ◌≤◌}
 use native.Mathlib.Omega.{arith}
-use Rattle.sha1.specs.declared.Stream.{Stream}
+use Rattle.sha1_message.specs.declared.Stream.{Stream}
 use borrow.Author.Rules.{rules}
 use Rattle.sha1_vectors.proofs.million.Statement.{statement}
 use Rattle.sha1_vectors.proofs.million.Tie as tie

@@ -4,13 +4,13 @@ use mathlib.Core.List.{List}
 use Prim.Native.Nat.{ℕ, ◌%◌}
 use lib.ListN.{length, set, replicate}
 use borrow.Author.Tests.{eq-eqb, ne_eqb}
-use Rattle.sha1.specs.declared.Stream.{Stream}
+use Rattle.sha1_message.specs.declared.Stream.{Stream}
 use Rattle.sha1_block.specs.Sha1.{compress_of, block_from}
-use Rattle.sha1.specs.Stream.{join}
+use Rattle.sha1_message.specs.Stream.{join}
 use Rattle.sha1_block.proofs.BlockLaws.{whole}
 use borrow.Author.Rules.{rules}
-use Rattle.sha1.proofs.streaming.join_lent.Statement.{statement}
-use Rattle.sha1.proofs.streaming.join_lent.Tie as tie
+use Rattle.sha1_message.proofs.streaming.join_lent.Statement.{statement}
+use Rattle.sha1_message.proofs.streaming.join_lent.Tie as tie
 
 block_full : (s : Stream) (b : ℕ) (g : List ℕ) → s.count % 64 ≡ 63 → length (set s.tail (s.count % 64) b) ≡ 64
     → g ≡ compress_of s.h (block_from (set s.tail (s.count % 64) b) 0) → (g ≡ (join s b).h) × (replicate 64 0 ≡ (join s b).tail)

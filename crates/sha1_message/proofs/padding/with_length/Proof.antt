@@ -1,7 +1,7 @@
 -- The two words of the length stand one after the other. Assumes nothing.
 use borrow.Author.Rules.{rules}
-use Rattle.sha1.proofs.padding.with_length.Statement.{statement}
-use Rattle.sha1.proofs.padding.with_length.Tie as tie
+use Rattle.sha1_message.proofs.padding.with_length.Statement.{statement}
+use Rattle.sha1_message.proofs.padding.with_length.Tie as tie
 
 returns : tie.Need-returns
 returns c = cc

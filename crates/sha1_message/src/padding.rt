@@ -1,7 +1,7 @@
 // The end of a message: its padding, its last block or two, and the digest.
 ghost use Rattle.std.specs.Prelude.{◌≡◌, ◌<◌, ◌≤◌, ◌^◌, ◌%◌, length};
 ghost use Rattle.sha1_block.specs.Sha1.{digest_of};
-ghost use Rattle.sha1.specs.Stream.{finish, mark as mark_spec, with_length};
+ghost use Rattle.sha1_message.specs.Stream.{finish, mark as mark_spec, with_length};
 
 use sha1_block::block::compress;
 use sha1_block::word::store;

@@ -1,9 +1,9 @@
 -- The whole blocks and the rest, finished. Assumes nothing.
 use mathlib.Core.Path.{refl}
-use Rattle.sha1.proofs.OneshotLaws.{at_once}
+use Rattle.sha1_message.proofs.OneshotLaws.{at_once}
 use borrow.Author.Rules.{rules}
-use Rattle.sha1.proofs.oneshot.hash.Statement.{statement}
-use Rattle.sha1.proofs.oneshot.hash.Tie as tie
+use Rattle.sha1_message.proofs.oneshot.hash.Statement.{statement}
+use Rattle.sha1_message.proofs.oneshot.hash.Tie as tie
 
 returns : tie.Need-returns
 returns c = at_once _ _ _ _ c.before.before.blocks2.ensures refl c.close.ensures

@@ -6,8 +6,8 @@ use native.Mathlib.Omega.{arith}
 use lib.ListN.{length}
 use Rattle.sha1_block.specs.Sha1.{hashed}
 use borrow.Author.Rules.{rules}
-use Rattle.sha1.proofs.oneshot.blocks.Statement.{statement}
-use Rattle.sha1.proofs.oneshot.blocks.Tie as tie
+use Rattle.sha1_message.proofs.oneshot.blocks.Statement.{statement}
+use Rattle.sha1_message.proofs.oneshot.blocks.Tie as tie
 
 abbrev invariant-loop : tie.invariant-loop
 invariant-loop m h₀ n i₀ h i = (h ≡ hashed m i) × (i ≤ n)

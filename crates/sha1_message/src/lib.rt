@@ -1,4 +1,6 @@
 // SHA-1 (FIPS 180-4) of a slice at once, and of a message that comes a byte at a time.
+#![tactic(auto)]
+
 mod oneshot;
 mod padding;
 mod streaming;
@@ -7,7 +9,7 @@ pub use oneshot::{extend, hash};
 pub use streaming::{begin, finish, join, join_lent, nothing};
 
 // A message as far as it came: the hash value after its whole blocks, the bytes behind them with 00h after them, and how many bytes in all.
-#[derive(Drop)]
+#[derive(Clone, Copy)]
 pub struct Stream {
     pub h: [u32; 5],
     pub tail: [u8; 64],

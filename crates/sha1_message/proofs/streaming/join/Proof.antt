@@ -1,8 +1,8 @@
 -- What the lent form gives, and one byte more. Assumes nothing.
-use Rattle.sha1.specs.Stream.{join}
+use Rattle.sha1_message.specs.Stream.{join}
 use borrow.Author.Rules.{rules}
-use Rattle.sha1.proofs.streaming.join.Statement.{statement}
-use Rattle.sha1.proofs.streaming.join.Tie as tie
+use Rattle.sha1_message.proofs.streaming.join.Statement.{statement}
+use Rattle.sha1_message.proofs.streaming.join.Tie as tie
 
 returns : tie.Need-returns
 unfolding join

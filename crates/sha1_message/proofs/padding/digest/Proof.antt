@@ -6,8 +6,8 @@ use lib.ListN.{get_or, replicate}
 use lib.Seq.{sets}
 use Rattle.sha1_block.specs.Sha1.{bytes_of, digest_of}
 use borrow.Author.Rules.{rules}
-use Rattle.sha1.proofs.padding.digest.Statement.{statement}
-use Rattle.sha1.proofs.padding.digest.Tie as tie
+use Rattle.sha1_message.proofs.padding.digest.Statement.{statement}
+use Rattle.sha1_message.proofs.padding.digest.Tie as tie
 
 five_words : (h p q r s t : List ℕ) → p ≡ sets (replicate 20 0) 0 (bytes_of (get_or h 0 0)) → q ≡ sets p 4 (bytes_of (get_or h 1 0)) → r ≡ sets q 8 (bytes_of (get_or h 2 0))
     → s ≡ sets r 12 (bytes_of (get_or h 3 0)) → t ≡ sets s 16 (bytes_of (get_or h 4 0)) → t ≡ digest_of h

@@ -7,8 +7,8 @@ use lib.ListN.{length, take, drop, replicate, length-append, length-drop}
 use lib.Seq.{take_all, take_at, take-length, drop_at}
 use borrow.Rule.Slice.PartMut.{mid_of, put_mid}
 use Rattle.sha1_block.specs.Sha1.{hashed, sha1}
-use Rattle.sha1.specs.Stream.{finish}
-use Rattle.sha1.proofs.StreamLaws.{rest, length_rest, digest_from}
+use Rattle.sha1_message.specs.Stream.{finish}
+use Rattle.sha1_message.proofs.StreamLaws.{rest, length_rest, digest_from}
 
 -- the slice behind the whole blocks is the rest
 rest_is : (m : List ℕ) → take (length m - 64 * (length m / 64)) (rest m) ≡ rest m

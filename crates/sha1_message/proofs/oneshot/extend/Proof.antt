@@ -2,10 +2,10 @@
 use mathlib.Core.Path.{sym, ap, ◌∙◌}
 use native.Mathlib.Omega.{arith}
 use Rattle.sha1_block.specs.Sha1.{sha1}
-use Rattle.sha1.proofs.OneshotLaws.{forty, forty_long}
+use Rattle.sha1_message.proofs.OneshotLaws.{forty, forty_long}
 use borrow.Author.Rules.{rules}
-use Rattle.sha1.proofs.oneshot.extend.Statement.{statement}
-use Rattle.sha1.proofs.oneshot.extend.Tie as tie
+use Rattle.sha1_message.proofs.oneshot.extend.Statement.{statement}
+use Rattle.sha1_message.proofs.oneshot.extend.Tie as tie
 
 slice-aggregate-hash : tie.Need-slice-aggregate-hash
 slice-aggregate-hash c =

@@ -1,7 +1,7 @@
 -- A message that is hashed a byte at a time: what the record keeps of it, how a byte joins, and what finishing gives.
 use Rattle.std.specs.Prelude.{cond, List, [], ◌∷◌, ◌++◌, ℕ, ◌+◌, ◌-◌, ◌*◌, ◌%◌, set, take, replicate, ltb, eqb}
 use Rattle.std.proofs.lemmas.List.Edits.{sets}
-use Rattle.sha1.specs.declared.Stream.{Stream}
+use Rattle.sha1_message.specs.declared.Stream.{Stream}
 use Rattle.sha1_block.specs.Sha1.{compress_of, first, length_field, digest_of}
 
 -- no message

@@ -4,13 +4,13 @@ use mathlib.Core.List.{List}
 use Prim.Native.Nat.{ℕ, ◌%◌, ◌≤◌, ◌<◌}
 use lib.ListN.{length, replicate}
 use borrow.Author.Tests.{lt-ltb, le-ltb}
-use Rattle.sha1.specs.declared.Stream.{Stream}
+use Rattle.sha1_message.specs.declared.Stream.{Stream}
 use Rattle.sha1_block.specs.Sha1.{compress_of, digest_of, block_from}
-use Rattle.sha1.specs.Stream.{finish, mark, with_length}
+use Rattle.sha1_message.specs.Stream.{finish, mark, with_length}
 use Rattle.sha1_block.proofs.BlockLaws.{whole}
 use borrow.Author.Rules.{rules}
-use Rattle.sha1.proofs.padding.close.Statement.{statement}
-use Rattle.sha1.proofs.padding.close.Tie as tie
+use Rattle.sha1_message.proofs.padding.close.Statement.{statement}
+use Rattle.sha1_message.proofs.padding.close.Tie as tie
 
 one_block : (s : Stream) (b t g r : List ℕ) → s.count % 64 < 56 → b ≡ mark s.tail (s.count % 64) → t ≡ with_length b s.count → length t ≡ 64
     → g ≡ compress_of s.h (block_from t 0) → r ≡ digest_of g → r ≡ finish s

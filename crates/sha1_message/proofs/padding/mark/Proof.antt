@@ -5,10 +5,10 @@ use Prim.Native.Nat.{ℕ, suc, ◌+◌, ◌-◌, ◌≤◌, ◌<◌}
 use native.Mathlib.Omega.{arith}
 use lib.ListN.{length, set, take, drop, replicate, length-replicate, replicate-append-replicate}
 use lib.Seq.{set_at, take-length, length-take-le, drop_at}
-use Rattle.sha1.specs.Stream.{mark}
+use Rattle.sha1_message.specs.Stream.{mark}
 use borrow.Author.Rules.{rules}
-use Rattle.sha1.proofs.padding.mark.Statement.{statement}
-use Rattle.sha1.proofs.padding.mark.Tie as tie
+use Rattle.sha1_message.proofs.padding.mark.Statement.{statement}
+use Rattle.sha1_message.proofs.padding.mark.Tie as tie
 
 -- what is left of k zeros behind the first n
 zeros_left : (k n : ℕ) → n ≤ k → drop n (replicate {A = ℕ} k 0) ≡ replicate (k - n) 0

@@ -9,9 +9,9 @@ use lib.ListN.{length, set, take, drop, replicate, length-append, length-drop, l
 use lib.Seq.{set_at, take_at, drop_at, take-append-le, drop-append-le, take_all, sets, sets-eq, drop-drop}
 use lib.Dec.{ltb, eqb}
 use borrow.Author.Tests.{eqb-true, eqb-false, ltb-true, ltb-false}
-use Rattle.sha1.specs.declared.Stream.{Stream}
+use Rattle.sha1_message.specs.declared.Stream.{Stream}
 use Rattle.sha1_block.specs.Sha1.{compress_of, hashed, zeros, pad, padding, length_field, digest_of, sha1}
-use Rattle.sha1.specs.Stream.{begin, join, join_all, with_length, mark, finish}
+use Rattle.sha1_message.specs.Stream.{begin, join, join_all, with_length, mark, finish}
 
 -- the bytes behind the whole blocks
 abbrev pub rest : List ℕ → List ℕ

@@ -1,6 +1,6 @@
 // A message that comes a byte at a time.
 ghost use Rattle.std.specs.Prelude.{◌≡◌, ◌+◌, ◌<◌, ◌^◌};
-ghost use Rattle.sha1.specs.Stream.{nothing, begin as begin_spec, join as join_spec, finish as finish_spec};
+ghost use Rattle.sha1_message.specs.Stream.{nothing, begin as begin_spec, join as join_spec, finish as finish_spec};
 
 use super::Stream;
 use super::padding::close;
