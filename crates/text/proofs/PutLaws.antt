@@ -1,13 +1,12 @@
 -- Text put behind text. Assumes nothing.
 use mathlib.Core.Path.{◌≡◌, refl, sym, ap, ◌∙◌}
 use mathlib.Core.List.{List, [], ◌∷◌, ◌++◌}
-use mathlib.Core.Logic.{⊎_elim}
 use Prim.Native.Nat.{ℕ, suc, ◌+◌, ◌/◌, ◌%◌, ◌≤◌, ◌<◌, min}
 use native.Mathlib.Numerals.{add-one}
 use native.Mathlib.Nat.{add-zero, add-suc, suc-add}
 use native.Mathlib.Omega.{arith, min_cases}
-use lib.ListN.{length, get_or, set, take, length-set, length-append}
-use lib.Seq.{sets, length-sets, set_out, take-suc, take-length, take_all}
+use lib.ListN.{length, get_or, set, take, length-append}
+use lib.Seq.{sets, length-sets, set_out, take-suc, take_all}
 use Rattle.text.specs.Text.{hex_digit, hex_byte, Puts}
 
 -- past the end nothing is stored
