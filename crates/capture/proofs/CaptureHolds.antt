@@ -2,19 +2,19 @@
 use mathlib.Core.Path.{◌≡◌, refl, sym, ap, ap₂, subst, ◌∙◌}
 use mathlib.Core.Bool.{Bool, true, false, not, cond, ◌&&◌, and-false, true≢false, false≢true}
 use mathlib.Core.List.{List, [], ◌∷◌, ◌++◌}
-use mathlib.Core.Logic.{◌⊎◌, inl, inr, ⊎_elim}
-use Prim.Native.Nat.{ℕ, zero, suc, ◌+◌, ◌*◌, ◌-◌, ◌≤◌, ◌<◌}
+use mathlib.Core.Logic.{◌⊎◌, inl, inr}
+use Prim.Native.Nat.{ℕ, ◌+◌, ◌*◌, ◌-◌, ◌≤◌, ◌<◌}
 use native.Mathlib.Omega.{arith}
-use lib.ListN.{length, get_or, take, drop, replicate, length-take, length-append, length-replicate, get_or-append, take-append-drop}
+use lib.ListN.{length, get_or, take, drop, replicate, length-append, length-replicate, get_or-append, take-append-drop}
 use lib.Seq.{get_or-take, length-take-le, take-nil, take_all}
 use lib.Dec.{eqb, leb, ltb}
-use borrow.Author.Tests.{eqb-true, leb-true, le-leb, lt-leb, ltb-true, ltb-false, lt-ltb, le-ltb, not-true, not-false}
+use borrow.Author.Tests.{eqb-true, leb-true, le-leb, lt-leb, ltb-true, ltb-false, not-true, not-false}
 use Rattle.bits.proofs.TestLaws.{both_true}
 use Rattle.capture.specs.declared.Cycle.{Cycle}
 use Rattle.capture.specs.declared.Word.{Word}
 use Rattle.capture.specs.declared.Word.TheVariants.{Nothing, Budget, BadKind, BadTail, BadHead}
-use Rattle.capture.specs.Capture.{head, agrees, head_good, body_of, cycle_at, records, before_bad_kind, sound, count_of, word_of, played, count, word, ends, settled}
-use Rattle.capture.specs.Claims.{headed, kind_of, Counted, Fields, Plays, Words, Headless, CaptureClaim}
+use Rattle.capture.specs.Capture.{head, agrees, head_good, body_of, cycle_at, records, before_bad_kind, count_of, word_of, played, count, word, ends, settled}
+use Rattle.capture.specs.Claims.{headed, kind_of, Plays, Headless, CaptureClaim}
 use Rattle.capture.proofs.RecordLaws.{counted, counted_once, record_at, records_whole, played_first, records_extend}
 use Rattle.capture.proofs.ExtentLaws.{no_body, none_played, bad_head_lem}
 use Rattle.capture.proofs.Words.{numbered, no_head_word, words_of}

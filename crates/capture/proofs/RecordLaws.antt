@@ -5,8 +5,8 @@ use mathlib.Core.List.{List, [], ◌∷◌, ◌++◌}
 use mathlib.Core.Logic.{◌⊎◌, inl, inr}
 use Prim.Native.Nat.{ℕ, zero, suc, ◌+◌, ◌*◌, ◌/◌, ◌≤◌, ◌<◌, min}
 use native.Mathlib.Omega.{arith, min_cases}
-use lib.ListN.{length, get_or, take, length-take, length-append, get_or-append}
-use lib.Seq.{take-take, take_all, get_or-take, length-take-le}
+use lib.ListN.{length, get_or, take}
+use lib.Seq.{take-take, take_all}
 use lib.Dec.{leb}
 use borrow.Author.Tests.{le-leb, lt-leb, leb-true, leb-false}
 use Rattle.capture.specs.declared.Cycle.{Cycle}

@@ -1,0 +1,10 @@
+-- The records looked at are of known kinds. Assumes nothing.
+use Rattle.std.proofs.Common.{ℕ, ◌-◌, ◌≤◌, ◌<◌}
+use Rattle.capture.specs.Claims.{kind_of}
+use Rattle.capture.proofs.records.count.Given as goal
+
+abbrev pub invariant-loop-n : goal.invariant-loop-n
+invariant-loop-n l = (l.n ≤ l.most) × ((i : ℕ) → i < l.n → kind_of l.body i ≤ 3)
+
+abbrev pub decreases-loop-n : goal.decreases-loop-n
+decreases-loop-n l = l.most - l.n
