@@ -1,5 +1,5 @@
 -- The lines of the output, put one behind the other. Assumes nothing.
-use mathlib.Core.Path.{◌≡◌, refl, sym, ap, subst, ◌∙◌}
+use mathlib.Core.Path.{◌≡◌, sym, ap, ◌∙◌}
 use mathlib.Core.List.{List, [], ◌∷◌, ◌++◌, append_assoc, append-nil}
 use Prim.Native.Nat.{ℕ, zero, suc, ◌+◌, ◌*◌, ◌≤◌, ◌<◌}
 use native.Mathlib.Numerals.{add-one}
@@ -7,10 +7,10 @@ use native.Mathlib.Omega.{arith}
 use lib.ListN.{length, get_or, take}
 use lib.Seq.{take-suc, length-take-le}
 use Rattle.text.specs.Text.{decimal, hex_byte, Puts}
-use Rattle.text.proofs.PutLaws.{puts_nothing, puts_within, puts_then}
+use Rattle.text.proofs.PutLaws.{puts_nothing, puts_then}
 use Rattle.capture.specs.declared.Word.{Word}
 use Rattle.capture.specs.declared.Word.TheVariants.{Nothing, BadHead}
-use Rattle.capture_text.specs.Output.{space, newline, line_of, lines_of, word_text, cycles_text, last_text, text_of}
+use Rattle.capture_text.specs.Lines.{space, newline, line_of, lines_of, word_text, cycles_text, last_text, text_of}
 
 module _ (lent : List ℕ) (at : ℕ) (within : at ≤ length lent) where
   -- three texts, one behind the other

@@ -3,7 +3,7 @@
 
 ghost use Rattle.std.specs.Prelude.{◌+◌, ◌*◌, ◌≤◌, ◌<◌, length, get_or, take};
 ghost use Rattle.text.specs.Text.{Puts};
-ghost use Rattle.capture_text.specs.Output.{line_of, lines_of, word_text, cycles_text, last_text, text_of};
+ghost use Rattle.capture_text.specs.Lines.{line_of, lines_of, word_text, cycles_text, last_text, text_of};
 
 use capture::Word;
 use text::{put, put_all, put_decimal, put_hex};

@@ -1,8 +1,8 @@
 -- Number, blank, digits, end of line. Assumes nothing.
 use Rattle.capture_text.proofs.LineLaws.{puts_line}
 use borrow.Author.Rules.{rules}
-use Rattle.capture_text.proofs.lines.put_answer.Statement.{statement}
-use Rattle.capture_text.proofs.lines.put_answer.Tie as tie
+use Rattle.capture_text.proofs.put_answer.Statement.{statement}
+use Rattle.capture_text.proofs.put_answer.Tie as tie
 
 pub put_answer_spec : {M : Type 1} → statement M
 put_answer_spec =
