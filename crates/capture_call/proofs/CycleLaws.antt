@@ -1,16 +1,14 @@
 -- A record's call by its kind. Assumes nothing.
-use mathlib.Core.Path.{◌≡◌, refl, sym, subst, ◌∙◌}
-use mathlib.Core.Bool.{cond}
+use mathlib.Core.Path.{◌≡◌, refl, sym, subst}
 use mathlib.Core.List.{List}
 use Prim.Native.Nat.{ℕ}
-use lib.Dec.{eqb}
 use borrow.Author.Tests.{eq-eqb, ne_eqb}
 use Rattle.record.specs.declared.Device.{Device}
 use Rattle.call_outcome.specs.declared.ReadOutcome.{ReadOutcome}
 use Rattle.call_bus.specs.Bus as bus
 use Rattle.capture.specs.declared.Cycle.{Cycle}
 use Rattle.claims.specs.Calls.{Call, reset, read, write, respond, State, state, called}
-use Rattle.capture_play.specs.Play.{engine_answer, call_of, Gives}
+use Rattle.capture_call.specs.Call.{engine_answer, call_of, Gives}
 
 gives_call : (o : ReadOutcome) (w r : List ℕ) (s : State) (a b : Call) → a ≡ b → Gives o w r (called a s) → Gives o w r (called b s)
 gives_call o w r s a b e g = subst (λ (c : Call). Gives o w r (called c s)) e g

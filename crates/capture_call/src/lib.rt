@@ -2,7 +2,7 @@
 #![tactic(auto)]
 
 ghost use Rattle.claims.specs.Calls.{state, called, write as write_call, reset as reset_call, respond as respond_call};
-ghost use Rattle.capture_play.specs.Play.{engine_answer, call_of, Gives};
+ghost use Rattle.capture_call.specs.Call.{engine_answer, call_of, Gives};
 
 use call_outcome::ReadOutcome;
 use capture::Cycle;

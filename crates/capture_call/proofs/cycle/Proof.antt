@@ -1,8 +1,8 @@
 -- The call of a record is the one of its kind. Assumes nothing.
-use Rattle.capture_play.proofs.CycleLaws.{kind_read, kind_write, kind_reset, kind_answer}
+use Rattle.capture_call.proofs.CycleLaws.{kind_read, kind_write, kind_reset, kind_answer}
 use borrow.Author.Rules.{rules}
-use Rattle.capture_play.proofs.cycle.cycle.Statement.{statement}
-use Rattle.capture_play.proofs.cycle.cycle.Tie as tie
+use Rattle.capture_call.proofs.cycle.Statement.{statement}
+use Rattle.capture_call.proofs.cycle.Tie as tie
 
 pub cycle_spec : {M : Type 1} → statement M
 cycle_spec =
