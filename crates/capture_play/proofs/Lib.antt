@@ -1,2 +1,1 @@
-pub mod CycleLaws
 pub mod PlayLaws

@@ -5,7 +5,7 @@ use mathlib.Core.List.{List, [], ◌∷◌, map}
 use Prim.Native.Nat.{ℕ, suc, ◌+◌, ◌*◌, ◌≤◌, ◌<◌}
 use native.Mathlib.Numerals.{add-one}
 use native.Mathlib.Omega.{arith}
-use lib.ListN.{length, get_or, set, take, drop, drop_of_length-le, length-map, get_or-map}
+use lib.ListN.{length, set, take, drop, drop_of_length-le, length-map, get_or-map}
 use lib.Seq.{sets, drop-cons, get_or-take, length-take-le}
 use Rattle.record.specs.declared.Device.{Device}
 use Rattle.call_outcome.specs.declared.Outcome.{Outcome}
@@ -16,9 +16,10 @@ use Rattle.capture.specs.declared.Cycle.{Cycle}
 use Rattle.capture.specs.declared.Word.{Word}
 use Rattle.capture.specs.Capture.{body_of, cycle_at, records, played, count, word}
 use Rattle.capture.proofs.RecordLaws.{counted, record_at, records_whole, played_first}
-use Rattle.claims.specs.Calls.{Call, Answer, State, state, Called, called, left, after, heard}
+use Rattle.claims.specs.Calls.{Call, State, state, called, left, after, heard}
 use Rattle.capture_play.specs.declared.Played.{Played}
-use Rattle.capture_play.specs.Play.{call_of, calls_of, shown_byte, shown, cycles_in, powered, Plays, Gives, Turns, first_calls, Runs}
+use Rattle.capture_call.specs.Call.{call_of, Gives}
+use Rattle.capture_play.specs.Play.{calls_of, shown, cycles_in, powered, Plays, Turns, first_calls, Runs}
 
 -- a record's outcome and its two bytes
 pub turned : (body : List ℕ) (i : ℕ) (k : Cycle) (s : State) (o : ReadOutcome) (a w r lent : List ℕ) → k ≡ cycle_at body i → Gives o w r (called (call_of k) s)

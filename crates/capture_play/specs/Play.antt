@@ -1,39 +1,20 @@
 -- Playing a capture (document 02, W1): each record is a call of the front, handed what the last one left, from a power-on on. Assumes nothing.
-use Rattle.std.specs.Prelude.{ℕ, suc, ◌+◌, ◌*◌, ◌≡◌, Bool, cond, List, [], ◌∷◌, map, set, take, eqb}
+use Rattle.std.specs.Prelude.{ℕ, suc, ◌+◌, ◌*◌, ◌≡◌, Bool, List, [], ◌∷◌, map, set, take}
 use Rattle.std.proofs.lemmas.List.Edits.{sets}
 use Rattle.record.specs.declared.Device.{Device}
-use Rattle.call_outcome.specs.declared.ReadOutcome.{ReadOutcome}
 use Rattle.call_power.specs.Power as power
-use Rattle.capture.specs.declared.Cycle.{Cycle}
 use Rattle.capture.specs.Capture.{records, played, count, word}
-use Rattle.claims.specs.Calls.{Call, reset, read, write, respond, State, state, Value, nothing, byte, bytes, flag, Answer, Called, changes, called, left, after, heard}
+use Rattle.claims.specs.Calls.{Call, State, state, Answer, changes, called, left, after, heard}
+use Rattle.capture_call.specs.Call.{call_of, shown_byte}
 use Rattle.capture_play.specs.declared.Played.{Played}
 
--- ---- a record as a call
-
--- "an engine answer 00 C4 00 00 00 0A 00 00 00 00"
-abbrev pub engine_answer : List ℕ
-engine_answer = 0x00 ∷ 0xc4 ∷ 0x00 ∷ 0x00 ∷ 0x00 ∷ 0x0a ∷ 0x00 ∷ 0x00 ∷ 0x00 ∷ 0x00 ∷ []
-
--- "Kinds: 0 read, 1 write, 2 reset, 3 an engine answer .. whose run number is the offset field." No record of a kind above 3 is played
-unfoldable pub call_of : Cycle → Call
-call_of c =
-    cond (eqb c.kind 0) (read c.offset)
-    (cond (eqb c.kind 1) (write c.offset c.byte)
-    (cond (eqb c.kind 2) reset (respond c.offset engine_answer)))
+-- ---- the calls of a capture
 
 -- the calls of the records that are played within the limit
 unfoldable pub calls_of : ℕ → List ℕ → List Call
 calls_of limit capture = map call_of (played limit capture)
 
--- ---- its answer
-
--- "two hex digits (FF unless a read)"
-abbrev pub shown_byte : Value → ℕ
-shown_byte nothing = 0xff
-shown_byte (byte v) = v
-shown_byte (bytes vs) = 0xff
-shown_byte (flag b) = 0xff
+-- ---- their answers
 
 -- "the refusal number", and the byte: two for each record
 unfoldable pub shown : List (Call × Answer) → List ℕ
@@ -61,14 +42,6 @@ pub record Plays (p : Played) (a w r : List ℕ) (s : State) (limit : ℕ) (capt
   pub left : state p.device w r ≡ after s (calls_of limit capture)
 
 -- ---- the parts of the code
-
--- an outcome, with w and r in the FIFOs afterwards, is what a call gives
-pub record Gives (o : ReadOutcome) (w r : List ℕ) (k : Called) : Type 0 where
-  pub refusal : o.refusal ≡ k.answer.refusal
-  pub byte : o.byte ≡ shown_byte k.answer.value
-  pub device : o.device ≡ k.left.device
-  pub write_fifo : w ≡ k.left.write_fifo
-  pub read_fifo : r ≡ k.left.read_fifo
 
 -- call c, as record i, leaves the record d, the FIFOs w and r, and its answer in its two bytes of those lent
 pub record Turns (d : Device) (a w r : List ℕ) (c : Call) (s : State) (i : ℕ) (lent : List ℕ) : Type 0 where

@@ -9,7 +9,6 @@ ghost use Rattle.capture_play.specs.Play.{powered, Plays};
 use capture::{Word, body, scan};
 use record::Device;
 
-pub mod cycle;
 pub mod records;
 
 use records::play_records;

@@ -2,10 +2,11 @@
 ghost use Rattle.std.specs.Prelude.{◌*◌, ◌+◌, ◌^◌, ◌≤◌, ◌<◌, length, set, ◌≡◌};
 ghost use Rattle.capture.specs.Capture.{cycle_at};
 ghost use Rattle.claims.specs.Calls.{state};
-ghost use Rattle.capture_play.specs.Play.{call_of, first_calls, Turns, Runs};
+ghost use Rattle.capture_call.specs.Call.{call_of};
+ghost use Rattle.capture_play.specs.Play.{first_calls, Turns, Runs};
 
-use crate::cycle::cycle;
 use capture::cycle_at;
+use capture_call::cycle;
 use record::Device;
 
 // A byte at its place, if there is room.
