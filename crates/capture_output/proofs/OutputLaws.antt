@@ -1,7 +1,7 @@
 -- The output of a capture: the answers have their room, and their lines are those of the records played. Assumes nothing.
 use mathlib.Core.Path.{◌≡◌, refl, sym, ap, ◌∙◌}
-use mathlib.Core.List.{List, [], ◌∷◌, ◌++◌}
-use Prim.Native.Nat.{ℕ, suc, ◌+◌, ◌*◌, ◌≤◌}
+use mathlib.Core.List.{List, [], ◌∷◌}
+use Prim.Native.Nat.{ℕ, ◌+◌, ◌*◌, ◌≤◌}
 use native.Mathlib.Omega.{arith}
 use lib.ListN.{length, take, drop, replicate, length-replicate}
 use lib.Seq.{sets, length-sets, sets-eq, take_at}
@@ -10,7 +10,8 @@ use Rattle.capture.specs.Capture.{count}
 use Rattle.claims.specs.Calls.{Call, Answer, State, heard}
 use Rattle.capture_play.specs.declared.Played.{Played}
 use Rattle.capture_play.specs.Play.{calls_of, shown, cycles_in, Plays}
-use Rattle.capture_text.specs.Output.{start, text_of, output}
+use Rattle.capture_text.specs.Lines.{text_of}
+use Rattle.capture_output.specs.Output.{start, output}
 
 -- two bytes for each cycle
 shown_number : (hs : List (Call × Answer)) → length (shown hs) ≡ 2 * cycles_in hs

@@ -3,13 +3,10 @@
 #![tactic(auto)]
 
 ghost use Rattle.text.specs.Text.{Puts};
-ghost use Rattle.capture_text.specs.Output.{output};
+ghost use Rattle.capture_output.specs.Output.{output};
 
 use capture_play::play;
-
-pub mod lines;
-
-use lines::put_text;
+use capture_text::put_text;
 
 // The most cycles that are played.
 pub const CYCLE_LIMIT: usize = 10_000;
