@@ -2,8 +2,8 @@
 ghost use Rattle.std.specs.Prelude.{◌≤◌, length};
 
 use capture::settled;
-use capture_text::CYCLE_LIMIT;
-use libc::STDIN_FILENO;
+use capture_output::CYCLE_LIMIT;
+use std::io::{Read, Stdin};
 
 // The head, the records within the limit, and the one byte more by which bytes remain: no case needs another.
 pub const CAPTURE_BYTES: usize = 40_006;
@@ -15,23 +15,28 @@ pub struct Got {
     pub failed: bool,
 }
 
-fn read_once(rest: &mut [u8]) -> Got
+fn read_once(mut stdin: Stdin, rest: &mut [u8]) -> Got
     ensures { result.bytes ≤ length rest.new }
 {
-    let got = libc::read(STDIN_FILENO, rest);
-    Got {
-        bytes: io::count(got, rest),
-        failed: got < 0,
+    match stdin.read(rest) {
+        Ok(bytes) => Got {
+            bytes,
+            failed: false,
+        },
+        Err(_) => Got {
+            bytes: 0,
+            failed: true,
+        },
     }
 }
 
 // Until the bytes decide, the input ends or fails, or there is no room.
-pub fn read_capture(capture: &mut [u8]) -> Got
+pub fn read_capture(stdin: Stdin, capture: &mut [u8]) -> Got
     ensures { result.bytes ≤ length capture.new }
 {
     let mut n: usize = 0;
     while !settled(&capture[0..n], CYCLE_LIMIT) {
-        let got = read_once(&mut capture[n..]);
+        let got = read_once(stdin, &mut capture[n..]);
         if got.bytes == 0 {
             return Got {
                 bytes: n,

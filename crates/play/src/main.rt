@@ -1,12 +1,16 @@
 // Plays a capture of its standard input and prints what document 02, W1, says of it; docs/PLAY.md has the form.
 #![tactic(auto)]
 
-use capture_text::put_output;
-use libc::{STDERR_FILENO, STDOUT_FILENO};
+use capture_output::put_output;
+use std::io::Stdin;
 
 mod input;
 
 use input::{CAPTURE_BYTES, read_capture};
+
+const STDOUT_FILENO: i32 = 1;
+
+const STDERR_FILENO: i32 = 2;
 
 // An input or output that fails gets one line, and the run ends.
 fn fail(line: &[u8]) {
@@ -20,8 +24,8 @@ fn print(capture: &[u8], text: &mut [u8]) {
     }
 }
 
-fn run(capture: &mut [u8], text: &mut [u8]) {
-    let got = read_capture(capture);
+fn run(stdin: Stdin, capture: &mut [u8], text: &mut [u8]) {
+    let got = read_capture(stdin, capture);
     if got.failed {
         fail(b"play: standard input cannot be read\n");
         return;
@@ -31,8 +35,8 @@ fn run(capture: &mut [u8], text: &mut [u8]) {
 }
 
 // The longest output has 50,020 bytes: 10,000 lines of five, budget, and cycles 10000.
-fn main() {
+fn main(rt: HostRuntime) {
     let mut capture = [0u8; CAPTURE_BYTES];
     let mut text = io::large_buffer();
-    run(&mut capture, &mut text);
+    run(rt.stdin(), &mut capture, &mut text);
 }
