@@ -3,7 +3,7 @@ use mathlib.Core.Path.{◌≡◌, refl, sym, ap, subst, ◌∙◌}
 use mathlib.Core.Bool.{false}
 use mathlib.Core.List.{List, [], ◌∷◌, ◌++◌, map, append-nil}
 use mathlib.Core.Logic.{inl}
-use Prim.Native.Nat.{ℕ, zero, suc, ◌+◌, ◌*◌, ◌≤◌, ◌<◌}
+use Prim.Native.Nat.{ℕ, zero, suc, ◌+◌, ◌*◌, ◌<◌}
 use native.Mathlib.Omega.{arith}
 use lib.ListN.{length, take, replicate, length-append, length-replicate, get_or-append, get_or-replicate}
 use lib.Seq.{take_all}
@@ -17,8 +17,10 @@ use Rattle.capture.proofs.RecordLaws.{counted_once, records_extend}
 use Rattle.capture.proofs.Words.{words_of}
 use Rattle.capture.proofs.CaptureHolds.{count_is, played_is, word_is}
 use Rattle.claims.specs.Calls.{Call, read, byte, Called, called, gives, heard}
-use Rattle.capture_play.specs.Play.{call_of, calls_of, shown, powered}
-use Rattle.capture_text.specs.Output.{line_of, lines_of, word_text, cycles_text, last_text, text_of, start, cycle_limit, output}
+use Rattle.capture_call.specs.Call.{call_of}
+use Rattle.capture_play.specs.Play.{calls_of, shown, powered}
+use Rattle.capture_text.specs.Lines.{line_of, lines_of, word_text, cycles_text, last_text, text_of}
+use Rattle.capture_output.specs.Output.{start, cycle_limit, output}
 use Rattle.conformance_claim.proofs.SheetHolds.{calls}
 use Rattle.capture_claim.specs.Cases.{whole_case, whole_text, kinds, kind_answers, bad_head_line, bad_tail_text, bad_kind_text, times, free_line, budget_line, cycles_line, reads, CasesClaim}
 

@@ -1,12 +1,12 @@
 -- Captures and what is printed for them (document 02, W1): the whole case, one with a record of every kind, and those around the limit of 10,000
 -- cycles. Assumes nothing.
-use Rattle.std.specs.Prelude.{ℕ, zero, suc, ◌*◌, ◌≡◌, false, List, [], ◌∷◌, ◌++◌, length, replicate}
+use Rattle.std.specs.Prelude.{ℕ, zero, suc, ◌≡◌, false, List, [], ◌∷◌, ◌++◌, length, replicate}
 use Rattle.capture.specs.declared.Word.TheVariants.{BadKind}
 use Rattle.capture.specs.Capture.{count, word}
 use Rattle.capture.specs.Claims.{headed}
 use Rattle.claims.specs.Calls.{heard}
 use Rattle.capture_play.specs.Play.{calls_of, shown}
-use Rattle.capture_text.specs.Output.{start, cycle_limit, output}
+use Rattle.capture_output.specs.Output.{start, cycle_limit, output}
 
 -- ---- the whole case
 
