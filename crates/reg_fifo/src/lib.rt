@@ -33,7 +33,8 @@ fn put_answer(b: &mut [u8], a: &[u8])
     requires { length a.now ≤ length b.old }
     ensures { b.new ≡ put_answer a.now b.old }
 {
-    let n = bytes::copy(a, b);
+    let n = a.len();
+    b[..n].copy_from_slice(a);
     clear_fifo(&mut b[n..]);
 }
 

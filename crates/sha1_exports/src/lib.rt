@@ -41,7 +41,7 @@ pub extern "C" fn sha1_at_once(m: &[u8], out: &mut [u8]) -> bool
         return false;
     }
     let digest = sha1_message::hash(m);
-    bytes::copy(&digest, out);
+    out.copy_from_slice(&digest);
     true
 }
 
@@ -58,6 +58,6 @@ pub extern "C" fn sha1_by_byte(m: &[u8], out: &mut [u8]) -> bool
         return false;
     }
     let digest = by_byte(m);
-    bytes::copy(&digest, out);
+    out.copy_from_slice(&digest);
     true
 }

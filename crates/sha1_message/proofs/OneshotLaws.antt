@@ -3,9 +3,9 @@ use mathlib.Core.Path.{◌≡◌, refl, ap, ◌∙◌}
 use mathlib.Core.List.{List, ◌++◌, append-nil}
 use Prim.Native.Nat.{ℕ, ◌-◌, ◌*◌, ◌/◌, ◌%◌}
 use native.Mathlib.Omega.{arith}
-use lib.ListN.{length, take, drop, replicate, length-append, length-drop}
-use lib.Seq.{take_all, take_at, take-length, drop_at}
-use borrow.Rule.Slice.PartMut.{mid_of, put_mid}
+use lib.ListN.{length, take, replicate, length-append, length-drop}
+use lib.Seq.{take_all, take_at, drop_at}
+use borrow.Rule.Slice.PartMut.{put_mid}
 use Rattle.sha1_block.specs.Sha1.{hashed, sha1}
 use Rattle.sha1_message.specs.Stream.{finish}
 use Rattle.sha1_message.proofs.StreamLaws.{rest, length_rest, digest_from}
@@ -22,12 +22,11 @@ at_once m h r x p i e =
     e ∙ digest_from (record { h = h; tail = x; count = length m }) m p (rw f (take_all (length m % 64) (rest m) (omega (arith, length_rest m)))) refl
 
 -- twenty bytes, and twenty more in the place of the last twenty, fill forty
-module _ (p d x z : List ℕ) (l : length p ≡ 20) (k : length d ≡ 20) (e : x ≡ take (length p) p ++ drop (length p) (replicate 40 0)) (f : z ≡ take (length d) d ++ drop (length d) (mid_of 20 20 x)) where
-  pub forty : put_mid 20 20 x z ≡ p ++ d
+module _ (p d x z : List ℕ) (l : length p ≡ 20) (k : length d ≡ 20) (e : x ≡ p) (f : z ≡ d) where
+  pub forty : put_mid 20 20 (x ++ replicate 20 0) z ≡ p ++ d
   forty =
-      let x' : x ≡ p ++ replicate 20 0 = e ∙ rw (take-length p, l) refl in
-      let z' : z ≡ d = f ∙ rw (x', drop_at p (replicate 20 0) 20 l, take-length d, k) (append-nil d) in
-      rw (x', z', take_at p (replicate 20 0) 20 l, drop_at p (replicate 20 0) 20 l) (ap (λ (y : List ℕ). p ++ y) (append-nil d))
+      let x' : x ++ replicate 20 0 ≡ p ++ replicate 20 0 = rw e refl in
+      rw (x', f, take_at p (replicate 20 0) 20 l, drop_at p (replicate 20 0) 20 l) (ap (λ (y : List ℕ). p ++ y) (append-nil d))
 
-  pub forty_long : length (put_mid 20 20 x z) ≡ 40
+  pub forty_long : length (put_mid 20 20 (x ++ replicate 20 0) z) ≡ 40
   forty_long = ap length forty ∙ length-append p d ∙ omega arith

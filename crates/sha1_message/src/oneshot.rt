@@ -34,7 +34,7 @@ pub fn extend(pcr: [u8; 20], digest: [u8; 20]) -> [u8; 20]
     ensures { result ≡ sha1 (pcr ++ digest) }
 {
     let mut m = [0u8; 40];
-    bytes::copy(&pcr, &mut m);
-    bytes::copy(&digest, &mut m[20..]);
+    m[..20].copy_from_slice(&pcr);
+    m[20..].copy_from_slice(&digest);
     hash(&m)
 }

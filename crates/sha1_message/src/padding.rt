@@ -38,7 +38,7 @@ fn mark(tail: &[u8], n: usize) -> [u8; 64]
     ensures { result ≡ mark_spec tail.now n }
 {
     let mut t = [0u8; 64];
-    bytes::copy(&tail[..n], &mut t);
+    t[..n].copy_from_slice(&tail[..n]);
     t[n] = 0x80;
     t
 }

@@ -1,16 +1,10 @@
 -- A block with the length, or a block and one more with the length. Assumes nothing.
-use mathlib.Core.Path.{◌≡◌, refl}
-use mathlib.Core.List.{List}
-use Prim.Native.Nat.{ℕ, ◌%◌, ◌≤◌, ◌<◌}
-use lib.ListN.{length, replicate}
-use borrow.Author.Tests.{lt-ltb, le-ltb}
+use Rattle.std.proofs.Common.{◌≡◌, ℕ, ◌%◌, ◌≤◌, ◌<◌, List, length, replicate, refl, lt-ltb, le-ltb, rules}
 use Rattle.sha1_message.specs.declared.Stream.{Stream}
 use Rattle.sha1_block.specs.Sha1.{compress_of, digest_of, block_from}
 use Rattle.sha1_message.specs.Stream.{finish, mark, with_length}
 use Rattle.sha1_block.proofs.BlockLaws.{whole}
-use borrow.Author.Rules.{rules}
-use Rattle.sha1_message.proofs.padding.close.Statement.{statement}
-use Rattle.sha1_message.proofs.padding.close.Tie as tie
+use Rattle.sha1_message.proofs.padding.close.Goals as goal
 
 one_block : (s : Stream) (b t g r : List ℕ) → s.count % 64 < 56 → b ≡ mark s.tail (s.count % 64) → t ≡ with_length b s.count → length t ≡ 64
     → g ≡ compress_of s.h (block_from t 0) → r ≡ digest_of g → r ≡ finish s
@@ -22,15 +16,8 @@ two_blocks : (s : Stream) (b t g k r : List ℕ) → 56 ≤ s.count % 64 → b �
 unfolding finish
 two_blocks s b t g k r l m n p e n' p' q = simp (le-ltb _ _ l) (rw (q, p', whole t n', e, p, whole b n, m) refl)
 
-returns : tie.Need-returns
-returns c = search (rules, one_block)
+pub returns-then-at-lt56 : goal.returns-then-at-lt56
+returns-then-at-lt56 c = search (rules, one_block)
 
-returns-2 : tie.Need-returns-2
-returns-2 c = search (rules, two_blocks)
-
-pub close_spec : {M : Type 1} → statement M
-close_spec =
-    tie.close
-    (tie.spec (λ c κs. search rules) (λ c κs. search rules) (λ c. search rules) (λ c κs. search rules)
-    (λ c κs. search rules) returns (λ c. search rules) (λ c κs. search rules) (λ c κs. search rules)
-    (λ c. search rules) (λ c κs. search rules) (λ c κs. search rules) returns-2)
+pub returns : goal.returns
+returns c = search (rules, two_blocks)
