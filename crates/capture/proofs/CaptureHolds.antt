@@ -1,6 +1,6 @@
 -- What W1 says of every capture and every limit holds of the definitions. Assumes nothing.
 use mathlib.Core.Path.{◌≡◌, refl, sym, ap, ap₂, subst, ◌∙◌}
-use mathlib.Core.Bool.{Bool, true, false, not, cond, ◌&&◌, and_false, true≢false, false≢true}
+use mathlib.Core.Bool.{Bool, true, false, not, cond, ◌&&◌, and-false, true≢false, false≢true}
 use mathlib.Core.List.{List, [], ◌∷◌, ◌++◌}
 use mathlib.Core.Logic.{◌⊎◌, inl, inr, ⊎_elim}
 use Prim.Native.Nat.{ℕ, zero, suc, ◌+◌, ◌*◌, ◌-◌, ◌≤◌, ◌<◌}
@@ -87,7 +87,7 @@ differs_on (x ∷ h) (b ∷ bytes) more e = by (eqb b x) e (differs_on h bytes m
 
 differs_bad : (capture : List ℕ) → agrees head capture ≡ false → head_good capture ≡ false
 unfolding head_good
-differs_bad capture e = rw e (and_false (leb 5 (length capture)))
+differs_bad capture e = rw e (and-false (leb 5 (length capture)))
 
 -- ---- the records played
 

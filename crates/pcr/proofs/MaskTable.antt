@@ -1,7 +1,7 @@
 -- The permission question by cases, and a table of masks that answers as a rule does, by one test that antt computes. Assumes nothing.
 use mathlib.Core.Path.{◌≡◌, refl, sym, ap, subst, ◌∙◌}
 use mathlib.Core.Logic.{⊎_elim}
-use mathlib.Core.Bool.{Bool, true, false, beq, cond, or_true, ◌&&◌, ◌||◌}
+use mathlib.Core.Bool.{Bool, true, false, beq, cond, or-true, ◌&&◌, ◌||◌}
 use mathlib.Core.List.{List}
 use Prim.Native.Nat.{ℕ, zero, suc, ◌<◌, ◌≤◌}
 use native.Mathlib.Nat.{le_of_suc-le-suc, not-suc-le-zero, eq-or-lt_of_le}
@@ -21,7 +21,7 @@ module _ (rule : ℕ → ℕ → Bool) (p x : ℕ) where
 
   pub past_pages : localities ≤ x → refused ≡ permission rule p x
   unfolding permission
-  past_pages h = simp (le-leb localities x h, or_true)
+  past_pages h = simp (le-leb localities x h, or-true)
 
   pub within : (b : Bool) → b ≡ rule p x → p < pcrs → x < localities → given b ≡ permission rule p x
   unfolding permission

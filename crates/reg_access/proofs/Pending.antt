@@ -1,6 +1,6 @@
 -- pendingRequest: the walk over the localities, and that the bit shows the others' requests and nothing else. Assumes nothing.
 use mathlib.Core.Path.{◌≡◌, refl, sym, ◌∙◌, ap}
-use mathlib.Core.Bool.{Bool, true, false, cond, not, ◌&&◌, ◌||◌, or_true, true≢false}
+use mathlib.Core.Bool.{Bool, true, false, cond, not, ◌&&◌, ◌||◌, or-true, true≢false}
 use Prim.Native.Nat.{ℕ, zero, suc, ◌+◌, ◌*◌, ◌<◌, ◌≤◌}
 use native.Mathlib.Numerals.{add-one}
 use native.Mathlib.Omega.{arith}
@@ -54,7 +54,7 @@ module _ (s : Arbiter) (x : Locality) where
   shows_below (suc n) y l d w = at (eqb y n) refl (λ m. shows_below n y m d w)
     where
       at : (b : Bool) → eqb y n ≡ b → (y < n → other_waits_below n s x ≡ true) → other_waits_below (suc n) s x ≡ true
-      at true e ih = rw (← eqb-true y n e, w, d, or_true)
+      at true e ih = rw (← eqb-true y n e, w, d, or-true)
       at false e ih = let k : y ≡ n → ⊥ = eqb-false y n e in rw (ih (omega arith))
 
   -- a locality below n that waits and is other than x
