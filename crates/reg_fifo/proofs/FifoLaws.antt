@@ -27,25 +27,6 @@ module _ (n k : ℕ) (r : List ℕ) where
 pub store_out : (w : List ℕ) (n v : ℕ) → length w ≤ n → w ≡ set w n v
 store_out w n v l = sym (set_out w n v l)
 
--- the answer is copied to the front, and the part behind it clearFifo
-pub answer_filled : (a b x m : List ℕ) (n : ℕ) → n ≡ length a → length a ≤ length b → x ≡ take (length a) a ++ drop (length a) b
-    → m ≡ clear_fifo (mid_of n (length x - n) x) → put_mid n (length x - n) x m ≡ put_answer a b
-answer_filled a b x m n e l p q =
-    let x' : x ≡ a ++ drop (length a) b = p ∙ rw take-length refl in
-    let behind : drop n x ≡ drop (length a) b = ap (λ (z : List ℕ). drop n z) x' ∙ drop_at a (drop (length a) b) n (sym e) in
-    let front : take n x ≡ a = ap (λ (z : List ℕ). take n z) x' ∙ take_at a (drop (length a) b) n (sym e) in
-    let size : length x ≡ length b = ap length x' ∙ length-append a (drop (length a) b) ∙ omega (arith, length-drop (length a) b) in
-    let left : length x - n ≡ length b - length a = omega arith in
-    let all : mid_of n (length x - n) x ≡ drop (length a) b =
-    ap (λ (z : List ℕ). take (length x - n) z) behind ∙ take_all (length x - n) (drop (length a) b) (omega (arith, length-drop (length a) b)) in
-    let none : post_of n (length x - n) x ≡ [] =
-    ap (λ (z : List ℕ). drop (length x - n) z) behind ∙ drop_of_length-le (drop (length a) b) {i = length x - n} (omega (arith, length-drop (length a) b)) in
-    let zeros : m ≡ replicate (length b - length a) 0 = q ∙ ap clear_fifo all ∙ ap (λ (k : ℕ). replicate k 0) (length-drop (length a) b) in
-    ap (λ (z : List ℕ). z ++ (m ++ post_of n (length x - n) x)) front
-    ∙ ap (λ (z : List ℕ). a ++ (m ++ z)) none
-    ∙ ap (λ (z : List ℕ). a ++ z) (append-nil m)
-    ∙ ap (λ (z : List ℕ). a ++ z) zeros
-
 module _ (f g : FifoAction) (e : f ≡ g) where
   pub write_case : (v : ℕ) (w w' : List ℕ) → w' ≡ update_write_fifo g v w → w' ≡ update_write_fifo f v w
   write_case v w w' h = h ∙ ap (λ (k : FifoAction). update_write_fifo k v w) (sym e)
