@@ -96,7 +96,7 @@ all_told : (c : ℕ) (m : Model) (q : Mail) (t : Trail) (s : State) (cs : List C
     → Told c (run m (events (heard s cs))) (mail_from c m q (heard s cs)).box (trail_from c m q t (heard s cs))
 unfolding run events heard mail_from trail_from
 all_told c m q t s [] h d = d
-all_told c m q t s (k ∷ ks) h d = all_told c _ _ _ (left k s) ks (one_kept c m q s h k) (one_told s h t d k)
+all_told c m q t s (k ∷ ks) h d = all_told c (step m (happens k s)) _ _ (left k s) ks (one_kept c m q s h k) (one_told s h t d k)
 
 -- ---- a run that goes on
 

@@ -6,7 +6,7 @@ use mathlib.Core.List.{List, [], ◌∷◌}
 use Prim.Native.Nat.{ℕ, ◌+◌, ◌-◌}
 use lib.ListN.{length, take, drop}
 use lib.Seq.{take-length}
-use denote.Ref.{Bor}
+use Rattle.std.specs.Borrow.{Bor, MutBor}
 use contract.Lifetimes.{Lfts}
 use Rattle.pcr.specs.Permission as table
 use Rattle.pcr.specs.Permission.{permission}
@@ -46,9 +46,12 @@ step_called (looks κs d w r t n n' p) = rw (p.0.bytes, p.1, now_two (query.wind
 
 -- ---- and there is one for every call
 
--- a reference to a value, at some place
+-- a reference to a value, at some place, and one that may change it
 abbrev at : {X : Type 0} → X → Bor X
 at x = record { ref_ptr = (0, 0); now = x }
+
+abbrev mut : {X : Type 0} → X → MutBor X
+mut x = record { ref_ptr = (0, 0); ghost_name = 0; now = x }
 
 abbrev outcome : Result → Outcome
 outcome t = record { refusal = t.refusal; device = t.device }
@@ -60,7 +63,6 @@ leaves t = record { refusal = refl; device = refl; write_fifo = refl; read_fifo 
 abbrev shown : Span → Bor (List ℕ) → Bor (List ℕ)
 shown p f = record {
   ref_ptr = (f.ref_ptr.0, p.start + f.ref_ptr.1);
-  ghost_name = 0;
   now = take (p.stop - p.start) (drop p.start f.now);
 }
 
@@ -74,17 +76,17 @@ three = ([], ([], ([], tt)))
 pub called_step : (c : Call) (s : State) → Step c s (called c s).answer (left c s)
 called_step (power_on e i) s =
     let t : Result = power.power_on e i s.write_fifo s.read_fifo in
-    powers_on two s.device e i (at s.write_fifo) (at t.write_fifo) (at s.read_fifo) (at t.read_fifo) (outcome t) (leaves t)
+    powers_on two s.device e i (mut s.write_fifo) (mut t.write_fifo) (mut s.read_fifo) (mut t.read_fifo) (outcome t) (leaves t)
 called_step reset s =
     let t : Result = power.reset s.device s.write_fifo s.read_fifo in
-    resets two s.device (at s.write_fifo) (at t.write_fifo) (at s.read_fifo) (at t.read_fifo) (outcome t) (leaves t)
+    resets two s.device (mut s.write_fifo) (mut t.write_fifo) (mut s.read_fifo) (mut t.read_fifo) (outcome t) (leaves t)
 called_step (read o) s = reads two s.device (at s.write_fifo) (at s.read_fifo) o (bus.read s.device s.write_fifo s.read_fifo o) refl
 called_step (write o v) s =
     let t : Result = bus.write s.device s.write_fifo s.read_fifo o v in
-    writes two s.device (at s.write_fifo) (at t.write_fifo) (at s.read_fifo) (at t.read_fifo) o v (outcome t) (leaves t)
+    writes two s.device (mut s.write_fifo) (mut t.write_fifo) (mut s.read_fifo) (mut t.read_fifo) o v (outcome t) (leaves t)
 called_step (respond run a) s =
     let t : Result = engine.respond s.device s.write_fifo s.read_fifo run a in
-    responds three s.device (at s.write_fifo) (at t.write_fifo) (at s.read_fifo) (at t.read_fifo) (at a) run (outcome t) (leaves t)
+    responds three s.device (mut s.write_fifo) (mut t.write_fifo) (mut s.read_fifo) (mut t.read_fifo) (at a) run (outcome t) (leaves t)
 called_step (pcr_value i) s = asks_pcr tt s i (query.pcr_value s.device i) refl
 called_step interrupt_line s = asks_line tt s (query.interrupt_line s.device) refl
 called_step (may_reset i x) s = asks_reset tt s i x (permission table.may_reset i x) refl
@@ -92,7 +94,7 @@ called_step (may_extend i x) s = asks_extend tt s i x (permission table.may_exte
 called_step window s =
     let p : Span = query.window_span s.device s.write_fifo s.read_fifo in
     let t : Bor (List ℕ) = shown p (of_two p.reading (at s.write_fifo) (at s.read_fifo)) in
-    let k : _ = looks two s.device (at s.write_fifo) (at s.read_fifo) t (at 0) (at (refusal_of window s)) (record { bytes = refl; place = refl }, refl) in
+    let k : _ = looks two s.device (at s.write_fifo) (at s.read_fifo) t (mut 0) (mut (refusal_of window s)) (record { bytes = refl; place = refl }, refl) in
     rw (now_two p.reading (at s.write_fifo) (at s.read_fifo)) at k
 
 -- ---- lists

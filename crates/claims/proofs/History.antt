@@ -103,7 +103,7 @@ power_identity : {established : Bool} {identity w r : List ℕ} {t : Result} →
 power_identity (power.refused e) = fresh_identity _ _ _
 power_identity (power.powered e) = fresh_identity _ _ _
 
-write_identity : {d d' : Device} {w r w' r' : List ℕ} {o v : ℕ} → Writes d w r o v d' w' r' → d'.identity ≡ d.identity
+write_identity : {d : Device} {w r : List ℕ} {o v : ℕ} {d' : Device} {w' r' : List ℕ} → Writes d w r o v d' w' r' → d'.identity ≡ d.identity
 write_identity (starts i j) = refl
 write_identity (ends i j e) = refl
 write_identity (joins u h i l) = refl
@@ -193,7 +193,7 @@ all_recorded : (c : ℕ) (m : Model) (q : Mail) (g : Signals) (bs : List ℕ) (w
     → Recorded c (run m (events (heard s cs))) (mail_from c m q (heard s cs)) (signals_from c m q g (heard s cs)) (stream_from m bs (heard s cs)) (values_from m bs w (heard s cs)) (identity_from i (heard s cs)) (after s cs)
 unfolding run events heard after mail_from signals_from stream_from values_from identity_from
 all_recorded c m q g bs w i s [] h = h
-all_recorded c m q g bs w i s (k ∷ ks) h = all_recorded c _ _ _ _ _ _ (left k s) ks (one_recorded c m q g bs w i s h k)
+all_recorded c m q g bs w i s (k ∷ ks) h = all_recorded c (step m (happens k s)) _ _ _ _ _ (left k s) ks (one_recorded c m q g bs w i s h k)
 
 pub history_is_all : HistoryIsAll
 unfolding run events heard after mail_from signals_from stream_from values_from identity_from model_after

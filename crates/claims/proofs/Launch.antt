@@ -167,7 +167,7 @@ unfolding with_dynamic
 launched_length b l =
     rw (length-append (take 17 b ++ replicate 6 (pcr (all_bytes 0))) (drop 23 b), length-append (take 17 b) (replicate 6 (pcr (all_bytes 0))), length-take-le 17 b (omega arith), length-drop 23 b, l) refl
 
-write_zeroed : {d d' : Device} {w r w' r' : List ℕ} {o v : ℕ} → Writes d w r o v d' w' r' → ZeroedIn d → ZeroedIn d'
+write_zeroed : {d : Device} {w r : List ℕ} {o v : ℕ} {d' : Device} {w' r' : List ℕ} → Writes d w r o v d' w' r' → ZeroedIn d → ZeroedIn d'
 write_zeroed {d = d} (starts i j) b = record { whole = launched_length d.pcrs b.whole; zeros = λ q p z. launched_at d.pcrs p b.whole ∙ rw z refl }
 write_zeroed {d = d} (ends i j k) b = closed_zeroed _ (length-set d.pcrs 17 _ ∙ b.whole)
 write_zeroed (joins u h i l) b = b
@@ -198,13 +198,13 @@ pub data LaunchStep (d : Device) (o : ℕ) : List Pcr → Bool → Type 0 where
   -- no start that counts, and no end of an open sequence
   kept : (in_four hash_start o ≡ true → rule.start_counts (owner d) ≡ false) → (in_four hash_end o ≡ true → d.launch.sequence ≡ false) → LaunchStep d o d.pcrs d.control.established
 
-pub launch_step : {d d' : Device} {w r w' r' : List ℕ} {o v : ℕ} → Writes d w r o v d' w' r' → LaunchStep d o d'.pcrs d'.control.established
+pub launch_step : {d : Device} {w r : List ℕ} {o v : ℕ} {d' : Device} {w' r' : List ℕ} → Writes d w r o v d' w' r' → LaunchStep d o d'.pcrs d'.control.established
 launch_step {d} {o = o} k = by k
   where
     none : Unhashed o → LaunchStep d o d.pcrs d.control.established
     none u = kept (λ s. absurd (clash s u.start)) (λ e. absurd (clash e u.end))
 
-    by : {d' : Device} {w r w' r' : List ℕ} {v : ℕ} → Writes d w r o v d' w' r' → LaunchStep d o d'.pcrs d'.control.established
+    by : {w r : List ℕ} {v : ℕ} {d' : Device} {w' r' : List ℕ} → Writes d w r o v d' w' r' → LaunchStep d o d'.pcrs d'.control.established
     by (starts i j) = started i j
     by (ends i j k) = ended i j k
     by (joins u h i l) = none u

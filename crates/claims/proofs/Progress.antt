@@ -22,7 +22,7 @@ use Rattle.arbiter.specs.declared.Owner.{Owner}
 use Rattle.arbiter.specs.declared.Owner.TheVariants.{Nobody, Held}
 use Rattle.arbiter.proofs.Cases as rule
 use Rattle.arbiter.proofs.Cases.{AccessCase, access_case}
-use Rattle.arbiter_model.specs.Model.{Model, held, fresh}
+use Rattle.arbiter_model.specs.Model.{Model, held, fresh, step}
 use Rattle.arbiter_model.proofs.ModelLaws.{not_free, held_same}
 use Rattle.arbiter_model.proofs.Invariant.{Sound}
 use Rattle.sha1_message.specs.Stream.{join}
@@ -55,7 +55,7 @@ use Rattle.call_bus.proofs.Cases.{owner, ReadCase, read_case, Writes, starts, en
 use Rattle.claims.specs.Calls.{Call, power_on, reset, read, write, respond, pcr_value, interrupt_line, may_reset, may_extend, window, State, state, refusal_of, left, after, heard}
 use Rattle.claims.specs.StaleAnswers.{running}
 use Rattle.claims.specs.Launch.{LaunchClaim}
-use Rattle.claims.specs.Events.{entry_of}
+use Rattle.claims.specs.Events.{entry_of, happens}
 use Rattle.claims.specs.Progress.{overlong, refusal_in, Works, is_lent, powered_by, last_powered, Halts, ProgressClaim}
 use Rattle.claims.specs.Mailbox.{Mailbox, idle, ready, receiving, executing, answering, Mail, mail, phase_of}
 use Rattle.claims.proofs.Orders.{Fits}
@@ -193,7 +193,7 @@ one_placed (resets e) i b = fresh_placed _ _ _
 one_placed (looks e) i b = b
 one_placed {s = s} (reads e h) i b = record { phase = read_placed s.device.phase (owner s.device) s.device.launch.sequence b.phase; hash = b.hash }
 one_placed {s = s} (writes {o = o} {v = v} k) i b = write_placed s.device s.write_fifo s.read_fifo o v i b k
-one_placed {s = s} (responds e) i b = record { phase = answer_placed s.device.phase _ (owner s.device) s.device.launch.sequence (both_true _ _ (answer_then _ _ _ _ _ _ refl e).1).0 b.phase; hash = b.hash }
+one_placed {s = s} (responds {a = a} e) i b = record { phase = answer_placed s.device.phase (length a) (owner s.device) s.device.launch.sequence (both_true _ _ (answer_then _ _ _ _ _ _ refl e).1).0 b.phase; hash = b.hash }
 
 -- ---- the clause on the counts
 
@@ -426,7 +426,7 @@ pub all_placed : (c : ℕ) (m : Model) (q : Mail) (s : State) (cs : List Call) �
 unfolding after
 all_placed c m q s [] h p = p
 all_placed c m q s (k ∷ ks) h p =
-    all_placed c _ _ (left k s) ks (one_kept c m q s h k)
+    all_placed c (step m (happens k s)) _ (left k s) ks (one_kept c m q s h k)
     (one_placed (call_case k s) (arbitrates s.device.control.arbiter s.device.launch.sequence h.book h.sound).opened p)
 
 -- ---- starts and ends of a launch are accepted

@@ -46,7 +46,7 @@ use Rattle.claims.specs.Mailbox.{Mailbox, idle, ready, receiving, executing, ans
 use Rattle.claims.specs.Answers.{may_go}
 use Rattle.claims.proofs.Padded.{length_padded, size_padded}
 use Rattle.claims.specs.Calls.{Call, power_on, State, refusal_of, left, after, heard}
-use Rattle.claims.specs.Events.{written, entry_of}
+use Rattle.claims.specs.Events.{written, entry_of, happens}
 use Rattle.claims.proofs.Orders as orders
 use Rattle.claims.proofs.Orders.{Fits, StsCase, sts_case}
 use Rattle.claims.proofs.Access.{someone, change_same}
@@ -465,7 +465,7 @@ pub all_signed : (c : ℕ) (m : Model) (q : Mail) (g : Signals) (s : State) (cs 
     → Signed (signals_from c m q g (heard s cs)) (after s cs).device.control
 unfolding heard after signals_from
 all_signed c m q g s [] h y = y
-all_signed c m q g s (k ∷ ks) h y = all_signed c _ _ _ (left k s) ks (one_kept c m q s h k) (one_signed c m q g s h y k)
+all_signed c m q g s (k ∷ ks) h y = all_signed c (model.step m (happens k s)) _ _ (left k s) ks (one_kept c m q s h k) (one_signed c m q g s h y k)
 
 pub first_signed : (s : State) (established : Bool) (identity : List ℕ) → Signed (quiet established) (left (power_on established identity) s).device.control
 first_signed s established identity = power_signs (power_case established identity s.write_fifo s.read_fifo)

@@ -78,7 +78,7 @@ reset_moves : (d : Device) (established : Bool) (identity : List ℕ) → Device
 unfolding fresh_device
 reset_moves d established identity = leaves refl
 
-write_moves : {d d' : Device} {w r w' r' : List ℕ} {o v : ℕ} → Writes d w r o v d' w' r' → Devices d d'
+write_moves : {d : Device} {w r : List ℕ} {o v : ℕ} {d' : Device} {w' r' : List ℕ} → Writes d w r o v d' w' r' → Devices d d'
 write_moves (starts i j) = leaves refl
 write_moves (ends i j k) = leaves refl
 write_moves (joins u h i l) = unmoved

@@ -2,7 +2,7 @@
 use mathlib.Core.Bool.{Bool}
 use mathlib.Core.List.{List, [], ◌∷◌}
 use Prim.Native.Nat.{ℕ}
-use denote.Ref.{Bor}
+use Rattle.std.specs.Borrow.{Bor, MutBor}
 use contract.Lifetimes.{Lfts}
 use Rattle.arbiter.specs.State.{locality}
 use Rattle.pcr.specs.declared.PcrIndex.{PcrIndex}
@@ -12,16 +12,16 @@ use Rattle.record.specs.declared.Device.{Device}
 use Rattle.call_outcome.specs.declared.Outcome.{Outcome}
 use Rattle.call_outcome.specs.declared.ReadOutcome.{ReadOutcome}
 use Rattle.call_query.specs.declared.PcrOutcome.{PcrOutcome}
-use Rattle.call_power.proofs.power_on.Reads as power_on·contract
-use Rattle.call_power.proofs.reset.Reads as reset·contract
-use Rattle.call_bus.proofs.reading.read.Reads as read·contract
-use Rattle.call_bus.proofs.writing.write.Reads as write·contract
-use Rattle.call_respond.proofs.respond.Reads as respond·contract
-use Rattle.call_query.proofs.pcr_value.Reads as pcr_value·contract
-use Rattle.call_query.proofs.interrupt_line.Reads as interrupt_line·contract
-use Rattle.call_query.proofs.may_reset.Reads as may_reset·contract
-use Rattle.call_query.proofs.may_extend.Reads as may_extend·contract
-use Rattle.call_query.proofs.window.Reads as window·contract
+use Rattle.call_power.proofs.power_on.Reads as power_on_contract
+use Rattle.call_power.proofs.reset.Reads as reset_contract
+use Rattle.call_bus.proofs.reading.read.Reads as read_contract
+use Rattle.call_bus.proofs.writing.write.Reads as write_contract
+use Rattle.call_respond.proofs.respond.Reads as respond_contract
+use Rattle.call_query.proofs.pcr_value.Reads as pcr_value_contract
+use Rattle.call_query.proofs.interrupt_line.Reads as interrupt_line_contract
+use Rattle.call_query.proofs.may_reset.Reads as may_reset_contract
+use Rattle.call_query.proofs.may_extend.Reads as may_extend_contract
+use Rattle.call_query.proofs.window.Reads as window_contract
 use Rattle.claims.specs.Calls.{Call, power_on, reset, read, write, respond, pcr_value, interrupt_line, may_reset, may_extend, window, State, state, Value, nothing, byte, bytes, flag, Answer}
 
 abbrev pub pcr_index : ℕ → PcrIndex
@@ -33,36 +33,36 @@ answer n v = record { refusal = n; value = v }
 -- one call: what it was handed, its answer, and what it left; the premise is the `ensures` of the public function, as the toolchain reads it
 -- off the source
 pub data Step : Call → State → Answer → State → Type 0 where
-  powers_on : (κs : Lfts 2) (d : Device) (established : Bool) (identity : List ℕ) (w w' r r' : Bor (List ℕ)) (o : Outcome)
-      → power_on·contract.Post κs (established, (identity, (w, (r, tt)))) o (established, (identity, (w', (r', tt))))
+  powers_on : (κs : Lfts 2) (d : Device) (established : Bool) (identity : List ℕ) (w w' r r' : MutBor (List ℕ)) (o : Outcome)
+      → power_on_contract.Post κs (established, (identity, (w, (r, tt)))) o (established, (identity, (w', (r', tt))))
       → Step (power_on established identity) (state d w.now r.now) (answer o.refusal nothing) (state o.device w'.now r'.now)
-  resets : (κs : Lfts 2) (d : Device) (w w' r r' : Bor (List ℕ)) (o : Outcome)
-      → reset·contract.Post κs (d, (w, (r, tt))) o (d, (w', (r', tt)))
+  resets : (κs : Lfts 2) (d : Device) (w w' r r' : MutBor (List ℕ)) (o : Outcome)
+      → reset_contract.Post κs (d, (w, (r, tt))) o (d, (w', (r', tt)))
       → Step reset (state d w.now r.now) (answer o.refusal nothing) (state o.device w'.now r'.now)
   reads : (κs : Lfts 2) (d : Device) (w r : Bor (List ℕ)) (offset : ℕ) (o : ReadOutcome)
-      → read·contract.Post κs (d, (w, (r, (offset, tt)))) o (d, (w, (r, (offset, tt))))
+      → read_contract.Post κs (d, (w, (r, (offset, tt)))) o (d, (w, (r, (offset, tt))))
       → Step (read offset) (state d w.now r.now) (answer o.refusal (byte o.byte)) (state o.device w.now r.now)
-  writes : (κs : Lfts 2) (d : Device) (w w' r r' : Bor (List ℕ)) (offset v : ℕ) (o : Outcome)
-      → write·contract.Post κs (d, (w, (r, (offset, (v, tt))))) o (d, (w', (r', (offset, (v, tt)))))
+  writes : (κs : Lfts 2) (d : Device) (w w' r r' : MutBor (List ℕ)) (offset v : ℕ) (o : Outcome)
+      → write_contract.Post κs (d, (w, (r, (offset, (v, tt))))) o (d, (w', (r', (offset, (v, tt)))))
       → Step (write offset v) (state d w.now r.now) (answer o.refusal nothing) (state o.device w'.now r'.now)
-  responds : (κs : Lfts 3) (d : Device) (w w' r r' a : Bor (List ℕ)) (run : ℕ) (o : Outcome)
-      → respond·contract.Post κs (d, (w, (r, (run, (a, tt))))) o (d, (w', (r', (run, (a, tt)))))
+  responds : (κs : Lfts 3) (d : Device) (w w' r r' : MutBor (List ℕ)) (a : Bor (List ℕ)) (run : ℕ) (o : Outcome)
+      → respond_contract.Post κs (d, (w, (r, (run, (a, tt))))) o (d, (w', (r', (run, (a, tt)))))
       → Step (respond run a.now) (state d w.now r.now) (answer o.refusal nothing) (state o.device w'.now r'.now)
   -- a question takes the record by value and the FIFOs to read: it leaves them as it got them
   asks_pcr : (κs : Lfts 0) (s : State) (i : ℕ) (o : PcrOutcome)
-      → pcr_value·contract.Post κs (s.device, (pcr_index i, tt)) o (s.device, (pcr_index i, tt))
+      → pcr_value_contract.Post κs (s.device, (pcr_index i, tt)) o (s.device, (pcr_index i, tt))
       → Step (pcr_value i) s (answer o.refusal (bytes o.value)) s
   asks_line : (κs : Lfts 0) (s : State) (level : Bool)
-      → interrupt_line·contract.Post κs (s.device, tt) level (s.device, tt)
+      → interrupt_line_contract.Post κs (s.device, tt) level (s.device, tt)
       → Step interrupt_line s (answer accepted (flag level)) s
   asks_reset : (κs : Lfts 0) (s : State) (i x : ℕ) (o : Permission)
-      → may_reset·contract.Post κs (pcr_index i, (locality x, tt)) o (pcr_index i, (locality x, tt))
+      → may_reset_contract.Post κs (pcr_index i, (locality x, tt)) o (pcr_index i, (locality x, tt))
       → Step (may_reset i x) s (answer o.refusal (flag o.allowed)) s
   asks_extend : (κs : Lfts 0) (s : State) (i x : ℕ) (o : Permission)
-      → may_extend·contract.Post κs (pcr_index i, (locality x, tt)) o (pcr_index i, (locality x, tt))
+      → may_extend_contract.Post κs (pcr_index i, (locality x, tt)) o (pcr_index i, (locality x, tt))
       → Step (may_extend i x) s (answer o.refusal (flag o.allowed)) s
-  looks : (κs : Lfts 2) (d : Device) (w r t : Bor (List ℕ)) (n n' : Bor ℕ)
-      → window·contract.Post κs (d, (w, (r, (n, tt)))) t (d, (w, (r, (n', tt))))
+  looks : (κs : Lfts 2) (d : Device) (w r t : Bor (List ℕ)) (n n' : MutBor ℕ)
+      → window_contract.Post κs (d, (w, (r, (n, tt)))) t (d, (w, (r, (n', tt))))
       → Step window (state d w.now r.now) (answer n'.now (bytes t.now)) (state d w.now r.now)
 
 -- a list of calls with their answers, each handed what the last one left

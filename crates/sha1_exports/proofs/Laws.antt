@@ -19,8 +19,7 @@ module _ (n : ℕ) (m out : List ℕ) where
   unfolding accepts digest_in
   too_long e l = simp (eq-eqb _ _ e, le-ltb _ _ l) (refl, refl)
 
-  pub hashed : (d o : List ℕ) → length out ≡ 20 → length m < n → length d ≡ 20 → d ≡ sha1 m → o ≡ take (length d) d ++ drop (length d) out → (true ≡ accepts n m out) × (o ≡ digest_in n m out)
+  pub hashed : (d o : List ℕ) → length out ≡ 20 → length m < n → length d ≡ 20 → d ≡ sha1 m → o ≡ d → (true ≡ accepts n m out) × (o ≡ digest_in n m out)
   unfolding accepts digest_in
   hashed d o e l k p q =
-      let r : o ≡ d = q ∙ rw (take-length d, drop_of_length-le out {i = length d} (omega arith)) (append-nil d) in
-      simp (eq-eqb _ _ e, lt-ltb _ _ l) (refl, r ∙ p)
+      simp (eq-eqb _ _ e, lt-ltb _ _ l) (refl, q ∙ p)
