@@ -1,4 +1,4 @@
-//! Compares the proved front with the yardstick, call by call: `tools/compare-calls` proves `replay` and runs this.
+//! Compares the proved front with the yardstick, call by call: `tools/compare-calls` has `replay` proved and runs this.
 //!
 //! REPLAY, SEED, CALLS and ROOM say which program, where the lists start, how many calls, and the folder for a failing list.
 //! It has no harness, so that progress and what was reached are seen.
@@ -12,12 +12,12 @@ use std::path::Path;
 use std::{fs, process};
 
 fn main() {
-    let target = Path::new(env!("CARGO_MANIFEST_DIR")).join("../target");
+    let root = Path::new(env!("CARGO_MANIFEST_DIR")).join("..");
     let task = Task {
-        program: given("REPLAY").map_or(target.join("bin/replay"), Into::into),
+        program: given("REPLAY").map_or(root.join("crates/replay/out/replay"), Into::into),
         seed: number("SEED", 12),
         calls: number("CALLS", 1_000_000),
-        folder: given("ROOM").map_or(target.join("compare-calls"), Into::into),
+        folder: given("ROOM").map_or(root.join("target/compare-calls"), Into::into),
     };
     if task.calls == 0 {
         stop(2, "CALLS is a number from 1 up");
@@ -25,7 +25,7 @@ fn main() {
     if !task.program.is_file() {
         stop(
             2,
-            "there is no program to play; `rt check replay` builds it",
+            "there is no program to play; `tools/built replay` builds it",
         );
     }
     match fs::create_dir_all(&task.folder).and_then(|()| compare::run(&task)) {

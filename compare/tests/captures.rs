@@ -12,18 +12,21 @@ use std::path::Path;
 use std::{fs, process};
 
 fn main() {
-    let target = Path::new(env!("CARGO_MANIFEST_DIR")).join("../target");
+    let root = Path::new(env!("CARGO_MANIFEST_DIR")).join("..");
     let task = Task {
-        program: given("PLAY").map_or(target.join("bin/play"), Into::into),
+        program: given("PLAY").map_or(root.join("crates/play/out/play"), Into::into),
         seed: number("SEED", 12),
         captures: number("CAPTURES", 20_000),
-        folder: given("ROOM").map_or(target.join("compare-captures"), Into::into),
+        folder: given("ROOM").map_or(root.join("target/compare-captures"), Into::into),
     };
     if task.captures == 0 {
         stop(2, "CAPTURES is a number from 1 up");
     }
     if !task.program.is_file() {
-        stop(2, "there is no program to play; `rt check play` builds it");
+        stop(
+            2,
+            "there is no program to play; `tools/built play` builds it",
+        );
     }
     match fs::create_dir_all(&task.folder).and_then(|()| captures::run(&task)) {
         Ok(true) => {}

@@ -30,7 +30,7 @@ pub fn page_at(offset: u16) -> Locality
     Locality((offset / PAGE) as u8)
 }
 
-fn in_four_lem(a: u16, o: u16) -> bool
+fn in_four(a: u16, o: u16) -> bool
     requires { a ≤ hash_start }
     ensures { result ≡ in_four a o }
 {
@@ -49,15 +49,15 @@ fn kind_if(b: bool, k: WriteKind) -> WriteKind
 pub fn resolve(offset: u16, sequence: bool, owner: Owner) -> WriteKind
     ensures { result ≡ resolve_spec offset sequence owner }
 {
-    if in_four_lem(HASH_START, offset) {
+    if in_four(HASH_START, offset) {
         return kind_if(start_counts(owner), WriteKind::HashStart);
     }
-    if in_four_lem(HASH_END, offset) {
+    if in_four(HASH_END, offset) {
         return kind_if(sequence, WriteKind::HashEnd);
     }
     let x = page_at(offset);
     if sequence & (x.0 == HASH_LOCALITY) {
-        return kind_if(in_four_lem(HASH_DATA, offset), WriteKind::HashData);
+        return kind_if(in_four(HASH_DATA, offset), WriteKind::HashData);
     }
     let at = offset % PAGE;
     if (at == ACCESS) | holds(owner, x) {

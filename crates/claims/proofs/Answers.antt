@@ -39,7 +39,7 @@ use Rattle.call_respond.proofs.Cases as engine
 use Rattle.call_respond.proofs.Cases.{RespondCase, respond_case}
 use Rattle.claims.specs.Calls as call
 use Rattle.claims.specs.Calls.{Call, power_on, read, write, respond, window, State, state, nothing, byte, bytes, Answer, gives, changes, shown_by, called, refusal_of, left, after, heard}
-use Rattle.claims.specs.Events.{written, answered, entry_of, event_for, happens, events, model_after}
+use Rattle.claims.specs.Events.{written, entry_of, event_for, happens, events, model_after}
 use Rattle.record_shape.specs.Shape as shape
 use Rattle.claims.specs.Mailbox as mailbox
 use Rattle.claims.specs.Mailbox.{Mailbox, idle, ready, receiving, executing, answering, Mail, mail, size_of, is_tpm_go, after_fetch, is_active, is_sts_command, is_fifo, mail_step, mail_from, phase_of, bad_size_answer, more_expected, after_command_ready, after_tpm_go, after_retry, after_sts, after_byte, by_active, answer_of}

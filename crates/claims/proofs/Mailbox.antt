@@ -48,7 +48,6 @@ use Rattle.call_bus.proofs.Cases.{owner, Sets, enables, clears, Orders, bit, not
 use Rattle.claims.specs.Calls.{Call, power_on, State, refusal_of, left, after, heard}
 use Rattle.claims.specs.Events.{read_at, entry_of, happens, events}
 use Rattle.claims.specs.Demand3.{Keeps}
-use Rattle.claims.specs.Launch.{start_counts}
 use Rattle.claims.specs.Mailbox as mailbox
 use Rattle.claims.specs.Mailbox.{Mailbox, idle, ready, receiving, executing, answering, Mail, mail, after_sts, after_byte, after_fetch, is_active, by_active, is_sts_command, is_fifo, mail_written, mail_step, mail_from, phase_of, command_of, answer_of, padded, MailboxClaim}
 use Rattle.claims.proofs.Padded.{length_padded, clear_padded, put_padded}

@@ -22,7 +22,7 @@ use Rattle.arbiter.specs.declared.access.AccessCommand.TheVariants.{Nothing, Req
 use Rattle.arbiter.proofs.Agreement.{command_event, event_command, get_or_put}
 use Rattle.arbiter_model.specs.Model as model
 use Rattle.arbiter_model.specs.Model.{Model, held, Event, access_event, is_access, write_event, put, highest, ignores_page, fresh}
-use Rattle.arbiter_model.specs.Waits.{hands_over, run}
+use Rattle.arbiter_model.specs.Waits.{hands_over}
 use Rattle.arbiter_model.proofs.ModelLaws.{access_elim}
 use Rattle.record.specs.Limits.{fifo_least}
 use Rattle.record.specs.Record.{fresh_device}

@@ -9,7 +9,7 @@ use Rattle.pcr.specs.Bank.{value_at, all_bytes}
 use Rattle.record.specs.Record.{fresh_device}
 use Rattle.record.specs.declared.Device.{Device}
 use Rattle.record.specs.declared.Phase.{Phase}
-use Rattle.record.specs.declared.Phase.TheVariants.{Ready, Reception, Execution, Completion}
+use Rattle.record.specs.declared.Phase.TheVariants.{Ready, Reception, Completion}
 use Rattle.record_shape.specs.Shape.{lengths_allowed, in_shape}
 use Rattle.reg_map.specs.Map.{register_at}
 use Rattle.reg_sts_read.specs.Size.{declared_size}

@@ -1,7 +1,7 @@
 // Writes a line of the sheet as text.
 ghost use Rattle.std.specs.Prelude.{◌<◌};
 
-use libc::STDOUT_FILENO;
+const STDOUT_FILENO: i32 = 1;
 
 const DIGITS: [u8; 16] = *b"0123456789abcdef";
 

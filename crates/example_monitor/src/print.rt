@@ -1,5 +1,5 @@
 // A line for each call.
-use libc::STDOUT_FILENO;
+const STDOUT_FILENO: i32 = 1;
 
 fn text(s: &[u8]) {
     io::write_all(STDOUT_FILENO, s);

@@ -1,16 +1,14 @@
 -- What the FIFOs hold, over plain lists. Assumes nothing.
-use mathlib.Core.Path.{◌≡◌, refl, sym, ap, ◌∙◌}
-use mathlib.Core.List.{List, [], ◌++◌, append-nil}
-use Prim.Native.Nat.{ℕ, ◌+◌, ◌-◌, ◌<◌, ◌≤◌}
-use native.Mathlib.Omega.{arith}
-use lib.ListN.{length, get_or, take, drop, set, replicate, length-append, length-drop, drop_of_length-le, get_or-eq_default}
-use lib.Seq.{set_out, take_at, take_all, take-length, drop_at}
-use borrow.Rule.Slice.PartMut.{mid_of, post_of, put_mid}
+use mathlib.Core.Path.{◌≡◌, sym, ap, ◌∙◌}
+use mathlib.Core.List.{List}
+use Prim.Native.Nat.{ℕ, ◌+◌, ◌<◌, ◌≤◌}
+use lib.ListN.{length, get_or, set, get_or-eq_default}
+use lib.Seq.{set_out}
 use borrow.Author.Tests.{lt-ltb, le-ltb}
 use Rattle.record.specs.declared.Phase.{Phase}
 use Rattle.record.specs.declared.Phase.TheVariants.{Completion}
 use Rattle.reg_fifo.specs.declared.FifoAction.{FifoAction}
-use Rattle.reg_fifo.specs.Fifo.{clear_fifo, put_answer, update_write_fifo, update_read_fifo, fifo_byte, after_read}
+use Rattle.reg_fifo.specs.Fifo.{update_write_fifo, update_read_fifo, fifo_byte, after_read}
 
 -- a read past the answer, at a byte, and past the FIFO
 module _ (n k : ℕ) (r : List ℕ) where

@@ -7,6 +7,7 @@ use replay_form::frame::{Fault, next_call};
 use replay_form::tape::{ROOM, Tape, moved, ready};
 use replay_form::{LONGEST, fault, tape};
 use replay_state::{State, play};
+use std::io::Stdin;
 
 #[derive(Clone, Copy)]
 struct Progress {
@@ -87,6 +88,7 @@ fn step(
 }
 
 fn turn(
+    stdin: Stdin,
     s: Progress,
     input: &mut [u8; ROOM],
     output: &mut [u8; ROOM],
@@ -98,7 +100,7 @@ fn turn(
 {
     let t = s.tape;
     let state = s.state;
-    let a = ready(t, input, output);
+    let a = ready(stdin, t, input, output);
     step(a, state, input, output, w, r)
 }
 
@@ -114,7 +116,7 @@ fn finish(tape: Tape, fault: Fault, output: &[u8; ROOM], turns: u64)
 }
 
 // A proved loop has to end, and nothing says that the input does: the turns are counted down from a number that no run uses up.
-fn main() {
+fn main(rt: HostRuntime) {
     let mut input = [0u8; ROOM];
     let mut output = [0u8; ROOM];
     let mut w = [0u8; LONGEST];
@@ -128,7 +130,7 @@ fn main() {
     let mut turns = u64::MAX;
     while turns > 0 && s.going {
         turns -= 1;
-        s = turn(s, &mut input, &mut output, &mut w, &mut r);
+        s = turn(rt.stdin(), s, &mut input, &mut output, &mut w, &mut r);
     }
     let t = s.tape;
     let f = s.fault;

@@ -1,6 +1,7 @@
 // The one line on standard error that a stream with a fault gets, and an input or output that fails.
 use crate::frame::Fault;
-use libc::STDERR_FILENO;
+
+const STDERR_FILENO: i32 = 2;
 
 fn tell(number: u64, text: &[u8]) {
     io::write_all(STDERR_FILENO, b"replay: call ");

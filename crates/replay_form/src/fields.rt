@@ -44,7 +44,7 @@ pub fn take(s: &[u8], at: usize, dst: &mut [u8]) {
         return;
     }
     let e = at + n;
-    bytes::copy(&s[at..e], dst);
+    dst.copy_from_slice(&s[at..e]);
 }
 
 pub fn put(out: &mut [u8], i: usize, b: u8) {
@@ -83,5 +83,6 @@ pub fn put_all(out: &mut [u8], at: usize, src: &[u8]) {
     if out.len() - at < src.len() {
         return;
     }
-    bytes::copy(src, &mut out[at..]);
+    let e = at + src.len();
+    out[at..e].copy_from_slice(src);
 }

@@ -1,7 +1,11 @@
 // The input and output buffers: filled and drained by as few reads and writes as there can be.
 ghost use Rattle.std.specs.Prelude.{◌≡◌, ◌+◌, ◌≤◌, length};
 
-use libc::{STDIN_FILENO, STDOUT_FILENO};
+use std::io::{Read, Stdin};
+
+const STDIN_FILENO: i32 = 0;
+
+const STDOUT_FILENO: i32 = 1;
 
 // The bytes of each buffer.
 pub const ROOM: usize = 65536;
@@ -60,24 +64,29 @@ struct Got {
     failed: bool,
 }
 
-fn read_once(rest: &mut [u8]) -> Got
+fn read_once(mut stdin: Stdin, rest: &mut [u8]) -> Got
     ensures { result.bytes ≤ length rest.new }
 {
-    let got = libc::read(STDIN_FILENO, rest);
-    Got {
-        bytes: io::count(got, rest),
-        failed: got < 0,
+    match stdin.read(rest) {
+        Ok(bytes) => Got {
+            bytes,
+            failed: false,
+        },
+        Err(_) => Got {
+            bytes: 0,
+            failed: true,
+        },
     }
 }
 
 // Until the input is full, ends or fails: the first read does not tell the last two apart, so one more does.
-fn read_more(input: &mut [u8], n: usize) -> Got
+fn read_more(stdin: Stdin, input: &mut [u8], n: usize) -> Got
     requires { n ≤ length input.old }
     ensures { n + result.bytes ≤ length input.new }
 {
     let most = input.len() - n;
     let bytes = least(io::read_full(STDIN_FILENO, &mut input[n..]), most);
-    let last = read_once(&mut input[n + bytes..]);
+    let last = read_once(stdin, &mut input[n + bytes..]);
     Got {
         bytes: bytes + least(last.bytes, most - bytes),
         failed: last.failed,
@@ -85,7 +94,7 @@ fn read_more(input: &mut [u8], n: usize) -> Got
 }
 
 // A whole call's bytes lie ahead afterwards, or all that the input has.
-fn refill(t: Tape, input: &mut [u8]) -> Tape
+fn refill(stdin: Stdin, t: Tape, input: &mut [u8]) -> Tape
     requires { (t.at ≤ t.end) × (t.end ≤ length input.old) }
     ensures { (result.at ≤ result.end) × (result.end ≤ length input.new) × (result.used ≡ t.used) }
 {
@@ -95,7 +104,7 @@ fn refill(t: Tape, input: &mut [u8]) -> Tape
         return t;
     }
     shift(input, at, n);
-    let got = read_more(input, n);
+    let got = read_more(stdin, input, n);
     let end = n + got.bytes;
     Tape {
         at: 0,
@@ -134,11 +143,11 @@ fn drain(t: Tape, output: &[u8]) -> Tape
 }
 
 // Both, before a call.
-pub fn ready(t: Tape, input: &mut [u8], output: &[u8]) -> Tape
+pub fn ready(stdin: Stdin, t: Tape, input: &mut [u8], output: &[u8]) -> Tape
     requires { (t.at ≤ t.end) × (t.end ≤ length input.old) × (t.used ≤ length output.now) }
     ensures { (result.at ≤ result.end) × (result.end ≤ length input.new) × (result.used ≤ length output.now) }
 {
-    drain(refill(t, input), output)
+    drain(refill(stdin, t, input), output)
 }
 
 // After a call of so many bytes whose outcome has so many.

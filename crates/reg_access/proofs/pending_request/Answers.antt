@@ -1,6 +1,5 @@
 -- Each turn looks at one locality more. Assumes nothing.
 use Rattle.std.proofs.Common.{refl, rules}
-use Rattle.reg_access.specs.Access.{other_waits_below}
 use Rattle.reg_access.proofs.Pending.{walk_more, walk_end}
 use Rattle.reg_access.proofs.pending_request.Goals as goal
 

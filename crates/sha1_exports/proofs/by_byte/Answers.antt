@@ -1,5 +1,5 @@
 -- Each turn joins one byte more. Assumes nothing.
-use Rattle.std.proofs.Common.{◌≡◌, ℕ, ◌+◌, ◌-◌, ◌≤◌, ◌<◌, List, length, get_or, take, sym, ap, ◌∙◌, add-one, arith, take_all}
+use Rattle.std.proofs.Common.{◌≡◌, ℕ, ◌+◌, ◌≤◌, ◌<◌, List, length, get_or, take, sym, ap, ◌∙◌, add-one, arith, take_all}
 use Rattle.std.proofs.Math.Seq.{take-suc}
 use Rattle.sha1_message.specs.declared.Stream.{Stream}
 use Rattle.sha1_block.specs.Sha1.{sha1}
