@@ -36,6 +36,16 @@ impl Causes {
         data_avail: false,
     };
 
+    pub const COMMAND_READY: Causes = Causes {
+        command_ready: true,
+        ..Causes::NONE
+    };
+
+    pub const DATA_AVAIL: Causes = Causes {
+        data_avail: true,
+        ..Causes::NONE
+    };
+
     // Those that `other` does not have.
     pub fn without(self, other: Causes) -> Causes
         ensures { result ≡ without self other }
