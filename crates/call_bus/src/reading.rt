@@ -13,7 +13,7 @@ use record::{Control, Device, HashProgress, Phase, hash_progress};
 use record_shape::Lengths;
 use reg_layout::PAGE;
 use reg_map::register_at;
-use reg_sts_read::size::declared_size;
+use reg_sts_read::size::Sizes;
 
 // What a read comes to: of the record only the phase may change.
 #[derive(Clone, Copy)]
@@ -44,8 +44,7 @@ fn accepted_read(
         control,
         phase,
         identity,
-        declared_size(write_fifo),
-        write_fifo.len() as u16,
+        Sizes::of(write_fifo),
         read_fifo,
     );
     let next = s.phase;

@@ -13,7 +13,7 @@ use launch::{hash_step, launch_after, overlong, pcrs_after};
 use record::{Control, Device, HashProgress, Phase, hash_progress};
 use record_shape::Lengths;
 use reg_fifo::{FifoAction, update_fifos};
-use reg_sts_read::size::declared_size;
+use reg_sts_read::size::Sizes;
 use reg_sts_write::completion::BAD_SIZE;
 
 // What a write comes to but for the hash sequence and the PCRs, which its kind changes; the kind of a refused one is Ignored.
@@ -56,8 +56,7 @@ fn accepted_write(
         x,
         control,
         phase,
-        declared_size(write_fifo),
-        write_fifo.len() as u16,
+        Sizes::of(write_fifo),
         byte,
     );
     let after = e.control;

@@ -2,7 +2,7 @@
 #![tactic(auto)]
 
 ghost use Rattle.std.specs.Prelude.{◌≡◌};
-ghost use Rattle.record.specs.Record.{fresh_control, closed_launch, fresh_device, with_interrupts, hash_progress};
+ghost use Rattle.record.specs.Record.{fresh_control, closed_launch, fresh_device, hash_progress};
 ghost use Rattle.record.specs.Causes.{without, either, share};
 
 use arbiter::Arbiter;
@@ -131,15 +131,6 @@ fn fresh_control(established: bool, run: u32) -> Control
         },
         established,
         run,
-    }
-}
-
-pub fn with_interrupts(control: Control, s: Interrupts) -> Control
-    ensures { result ≡ with_interrupts control s }
-{
-    Control {
-        interrupts: s,
-        ..control
     }
 }
 
