@@ -10,8 +10,7 @@ use lib.Dec.{eqb}
 use borrow.Author.Tests.{eq-eqb, ne_eqb, lt-ltb, le-ltb}
 use Rattle.bits.specs.Bits.{bit}
 use Rattle.arbiter.specs.declared.Locality.{Locality}
-use Rattle.arbiter.specs.declared.Owner.{Owner}
-use Rattle.arbiter.specs.declared.Owner.TheVariants.{Nobody, Held}
+use Rattle.std.specs.Prelude.{Option, Some, None}
 use Rattle.arbiter.specs.declared.Arbiter.{Arbiter}
 use Rattle.arbiter.specs.declared.Change.{Change}
 use Rattle.arbiter.specs.declared.access.AccessCommand.{AccessCommand}
@@ -51,49 +50,49 @@ module _ (v a b c d : ℕ) (p : a ≡ bit 5 v) (q : b ≡ bit 4 v) (r : c ≡ bi
 
 -- ---- the owner
 
-pub holds_case : (o : Owner) (x y : Locality) → o ≡ Held y → eqb y.0 x.0 ≡ holds o x
+pub holds_case : (o : Option Locality) (x y : Locality) → o ≡ Some y → eqb y.0 x.0 ≡ holds o x
 holds_case o x y e = rw e
 
-pub counts_case : (o : Owner) (y : Locality) → o ≡ Held y → eqb y.0 4 ≡ start_counts o
+pub counts_case : (o : Option Locality) (y : Locality) → o ≡ Some y → eqb y.0 4 ≡ start_counts o
 counts_case o y e = rw e
 
 -- ---- handover
 
-below : (w : List Bool) (n : ℕ) (y : Locality) → highest_below n w ≡ Held y → y.0 < n
+below : (w : List Bool) (n : ℕ) (y : Locality) → highest_below n w ≡ Some y → y.0 < n
 below w zero y e = let z : ◌≡◌ {A = ℕ} 0 1 = cc in omega arith
 below w (suc n) y e = at (get_or w n false) e (below w n y)
   where
-    at : (b : Bool) → cond b (Held (locality n)) (highest_below n w) ≡ Held y → (highest_below n w ≡ Held y → y.0 < n) → y.0 < suc n
+    at : (b : Bool) → cond b (Some (locality n)) (highest_below n w) ≡ Some y → (highest_below n w ≡ Some y → y.0 < n) → y.0 < suc n
     at true p ih = let q : n ≡ y.0 = cc in omega arith
     at false p ih = omega (arith, ih p)
 
-pub highest_below_lem : (w : List Bool) (o : Owner) (y : Locality) → o ≡ next_owner w → o ≡ Held y → y.0 < 5
+pub highest_below_lem : (w : List Bool) (o : Option Locality) (y : Locality) → o ≡ next_owner w → o ≡ Some y → y.0 < 5
 highest_below_lem w o y p q = below w 5 y (sym p ∙ q)
 
-module _ (s : Arbiter) (o : Owner) (next : o ≡ next_owner s.waiting) where
-  pub hand_nobody : (a : Arbiter) → o ≡ Nobody → a ≡ with_active s o → aborts_command a ≡ handover s
+module _ (s : Arbiter) (o : Option Locality) (next : o ≡ next_owner s.waiting) where
+  pub hand_nobody : (a : Arbiter) → o ≡ None → a ≡ with_active s o → aborts_command a ≡ handover s
   unfolding handover
-  hand_nobody a e p = ap aborts_command (p ∙ ap (with_active s) e) ∙ ap (λ (k : Owner). hand_to k s) (sym e ∙ next)
+  hand_nobody a e p = ap aborts_command (p ∙ ap (with_active s) e) ∙ ap (λ (k : Option Locality). hand_to k s) (sym e ∙ next)
 
-  pub hand_next : (y : Locality) (a : Arbiter) → o ≡ Held y → a ≡ serve s y → serves_next a ≡ handover s
+  pub hand_next : (y : Locality) (a : Arbiter) → o ≡ Some y → a ≡ serve s y → serves_next a ≡ handover s
   unfolding handover
-  hand_next y a e p = ap serves_next p ∙ ap (λ (k : Owner). hand_to k s) (sym e ∙ next)
+  hand_next y a e p = ap serves_next p ∙ ap (λ (k : Option Locality). hand_to k s) (sym e ∙ next)
 
 -- ---- the four commands
 
 module _ (s : Arbiter) (x : Locality) where
-  pub request_free : (a : Arbiter) → s.active ≡ Nobody → a ≡ with_active s (Held x) → (r : Change) → r ≡ keeps_command a → r ≡ request s x
+  pub request_free : (a : Arbiter) → s.active ≡ None → a ≡ with_active s (Some x) → (r : Change) → r ≡ keeps_command a → r ≡ request s x
   unfolding request
-  request_free a e q r p = p ∙ ap keeps_command q ∙ sym (ap (λ (o : Owner). request_from o s x) e)
+  request_free a e q r p = p ∙ ap keeps_command q ∙ sym (ap (λ (o : Option Locality). request_from o s x) e)
 
-  pub request_again : (y : Locality) → s.active ≡ Held y → y.0 ≡ x.0 → (r : Change) → r ≡ keeps_command s → r ≡ request s x
+  pub request_again : (y : Locality) → s.active ≡ Some y → y.0 ≡ x.0 → (r : Change) → r ≡ keeps_command s → r ≡ request s x
   unfolding request
-  request_again y e n r p = p ∙ sym (ap (λ (o : Owner). request_from o s x) e ∙ simp (eq-eqb _ _ n))
+  request_again y e n r p = p ∙ sym (ap (λ (o : Option Locality). request_from o s x) e ∙ simp (eq-eqb _ _ n))
 
-  pub request_wait : (y : Locality) (a : Arbiter) → s.active ≡ Held y → (y.0 ≡ x.0 → ⊥) → a ≡ queued s x → (r : Change)
+  pub request_wait : (y : Locality) (a : Arbiter) → s.active ≡ Some y → (y.0 ≡ x.0 → ⊥) → a ≡ queued s x → (r : Change)
       → r ≡ keeps_command a → r ≡ request s x
   unfolding request
-  request_wait y a e n q r p = p ∙ ap keeps_command q ∙ sym (ap (λ (o : Owner). request_from o s x) e ∙ simp (ne_eqb _ _ n))
+  request_wait y a e n q r p = p ∙ ap keeps_command q ∙ sym (ap (λ (o : Option Locality). request_from o s x) e ∙ simp (ne_eqb _ _ n))
 
   module _ (b : Bool) (is : b ≡ holds s.active x) where
     pub release_active : b ≡ true → (r : Change) → r ≡ handover s → r ≡ release s x
@@ -108,18 +107,18 @@ module _ (s : Arbiter) (x : Locality) where
     unfolding release
     release_nothing t w r e = e ∙ simp (sym is ∙ t, w)
 
-  pub seize_free : s.active ≡ Nobody → (r : Change) → r ≡ request s x → r ≡ seize s x
+  pub seize_free : s.active ≡ None → (r : Change) → r ≡ request s x → r ≡ seize s x
   unfolding seize request
-  seize_free e r p = p ∙ ap (λ (o : Owner). request_from o s x) e ∙ sym (ap (λ (o : Owner). seize_from o s x) e)
+  seize_free e r p = p ∙ ap (λ (o : Option Locality). request_from o s x) e ∙ sym (ap (λ (o : Option Locality). seize_from o s x) e)
 
-  pub seize_nothing : (y : Locality) → s.active ≡ Held y → x.0 ≤ y.0 → (r : Change) → r ≡ keeps_command s → r ≡ seize s x
+  pub seize_nothing : (y : Locality) → s.active ≡ Some y → x.0 ≤ y.0 → (r : Change) → r ≡ keeps_command s → r ≡ seize s x
   unfolding seize
-  seize_nothing y e l r p = p ∙ sym (ap (λ (o : Owner). seize_from o s x) e ∙ simp (le-ltb _ _ l))
+  seize_nothing y e l r p = p ∙ sym (ap (λ (o : Option Locality). seize_from o s x) e ∙ simp (le-ltb _ _ l))
 
-  pub seize_lower : (y : Locality) (a b : Arbiter) → s.active ≡ Held y → y.0 < x.0 → a ≡ serve s x → b ≡ with_seized a y.0 true → aborts_command b ≡ seize s x
+  pub seize_lower : (y : Locality) (a b : Arbiter) → s.active ≡ Some y → y.0 < x.0 → a ≡ serve s x → b ≡ with_seized a y.0 true → aborts_command b ≡ seize s x
   unfolding seize
   seize_lower y a b e l p q =
-      ap aborts_command (q ∙ ap (λ (z : Arbiter). with_seized z y.0 true) p) ∙ sym (ap (λ (o : Owner). seize_from o s x) e ∙ simp (lt-ltb _ _ l))
+      ap aborts_command (q ∙ ap (λ (z : Arbiter). with_seized z y.0 true) p) ∙ sym (ap (λ (o : Option Locality). seize_from o s x) e ∙ simp (lt-ltb _ _ l))
 
   pub clear_seized_lem : (a : Arbiter) → a ≡ with_seized s x.0 false → (r : Change) → r ≡ keeps_command a → r ≡ clear_seized s x
   unfolding clear_seized

@@ -4,7 +4,7 @@ ghost use Rattle.arbiter.specs.State.{localities, any_waits, holds as holds_spec
 ghost use Rattle.arbiter.specs.Rules.{keeps_command, access_command, request as request_spec, release as release_spec, seize as seize_spec, clear_seized, write_access};
 
 use crate::transfer::{handover, serve};
-use crate::{Arbiter, Change, Locality, Owner, with_active, with_seized, with_waiting};
+use crate::{Arbiter, Change, Locality, with_active, with_seized, with_waiting};
 use bits::bit;
 use reg_layout::access::{ACTIVE_LOCALITY, BEEN_SEIZED, REQUEST_USE, SEIZE};
 
@@ -40,12 +40,12 @@ pub fn access_command(byte: u8) -> AccessCommand
     AccessCommand::BeenSeized
 }
 
-pub fn holds(o: Owner, x: Locality) -> bool
+pub fn holds(o: Option<Locality>, x: Locality) -> bool
     ensures { result ≡ holds_spec o x }
 {
     match o {
-        Owner::Nobody => false,
-        Owner::Held(y) => y.0 == x.0,
+        None => false,
+        Some(y) => y.0 == x.0,
     }
 }
 
@@ -72,8 +72,8 @@ pub fn request(s: Arbiter, x: Locality) -> Change
 {
     let owner = s.active;
     match owner {
-        Owner::Nobody => keeps_command(with_active(s, Owner::Held(x))),
-        Owner::Held(y) => {
+        None => keeps_command(with_active(s, Some(x))),
+        Some(y) => {
             if y.0 == x.0 {
                 return keeps_command(s);
             }
@@ -104,8 +104,8 @@ pub fn seize(s: Arbiter, x: Locality) -> Change
 {
     let owner = s.active;
     match owner {
-        Owner::Nobody => request(s, x),
-        Owner::Held(y) => {
+        None => request(s, x),
+        Some(y) => {
             if x.0 <= y.0 {
                 return keeps_command(s);
             }

@@ -14,16 +14,10 @@ pub const LOCALITIES: u8 = 5;
 #[derive(Clone, Copy)]
 pub struct Locality(pub u8);
 
-#[derive(Clone, Copy)]
-pub enum Owner {
-    Nobody,
-    Held(Locality),
-}
-
-// The active locality, which localities wait, and which were seized.
+// The active locality, if the device is not free, which localities wait, and which were seized.
 #[derive(Clone, Copy)]
 pub struct Arbiter {
-    pub active: Owner,
+    pub active: Option<Locality>,
     pub waiting: [bool; 5],
     pub seized: [bool; 5],
 }
@@ -42,13 +36,13 @@ pub fn fresh_arbiter() -> Arbiter
     ensures { result ≡ fresh_arbiter }
 {
     Arbiter {
-        active: Owner::Nobody,
+        active: None,
         waiting: [false; 5],
         seized: [false; 5],
     }
 }
 
-pub fn with_active(s: Arbiter, o: Owner) -> Arbiter
+pub fn with_active(s: Arbiter, o: Option<Locality>) -> Arbiter
     ensures { result ≡ with_active s o }
 {
     let waiting = s.waiting;

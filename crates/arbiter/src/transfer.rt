@@ -3,12 +3,12 @@ ghost use Rattle.std.specs.Prelude.{◌≡◌, ◌<◌};
 ghost use Rattle.arbiter.specs.State.{localities};
 ghost use Rattle.arbiter.specs.Rules.{next_owner, serve as serve_spec, handover as handover_spec, start_counts, hash_start};
 
-use crate::{Arbiter, Change, Locality, Owner, with_active};
+use crate::{Arbiter, Change, Locality, with_active};
 use bits::flag_at;
 use reg_layout::HASH_LOCALITY;
 
 // The highest locality that waits, or nobody. Flag k stands at bit k of the mask, whose highest set bit is number 7 less the zeros above it.
-pub fn next_owner(waiting: [bool; 5]) -> Owner
+pub fn next_owner(waiting: [bool; 5]) -> Option<Locality>
     ensures { result ≡ next_owner waiting }
 {
     let mask = flag_at(waiting[0], 0)
@@ -17,10 +17,10 @@ pub fn next_owner(waiting: [bool; 5]) -> Owner
         + flag_at(waiting[3], 3)
         + flag_at(waiting[4], 4);
     if mask == 0 {
-        return Owner::Nobody;
+        return None;
     }
     let zeros = u8::leading_zeros(mask);
-    Owner::Held(Locality((7 - zeros) as u8))
+    Some(Locality((7 - zeros) as u8))
 }
 
 pub fn serve(s: Arbiter, y: Locality) -> Arbiter
@@ -32,7 +32,7 @@ pub fn serve(s: Arbiter, y: Locality) -> Arbiter
     waiting[i] = false;
     let seized = s.seized;
     Arbiter {
-        active: Owner::Held(y),
+        active: Some(y),
         waiting,
         seized,
     }
@@ -45,12 +45,12 @@ pub fn handover(s: Arbiter) -> Change
     let waiting = s.waiting;
     let next = next_owner(waiting);
     match next {
-        Owner::Nobody => Change {
+        None => Change {
             arbiter: with_active(s, next),
             abort: true,
             locality_change: false,
         },
-        Owner::Held(y) => Change {
+        Some(y) => Change {
             arbiter: serve(s, y),
             abort: true,
             locality_change: true,
@@ -58,12 +58,12 @@ pub fn handover(s: Arbiter) -> Change
     }
 }
 
-pub fn start_counts(o: Owner) -> bool
+pub fn start_counts(o: Option<Locality>) -> bool
     ensures { result ≡ start_counts o }
 {
     match o {
-        Owner::Nobody => true,
-        Owner::Held(y) => y.0 == HASH_LOCALITY,
+        None => true,
+        Some(y) => y.0 == HASH_LOCALITY,
     }
 }
 
@@ -71,5 +71,5 @@ pub fn start_counts(o: Owner) -> bool
 pub fn hash_start(s: Arbiter) -> Arbiter
     ensures { result ≡ hash_start s }
 {
-    with_active(s, Owner::Held(Locality(HASH_LOCALITY)))
+    with_active(s, Some(Locality(HASH_LOCALITY)))
 }

@@ -7,14 +7,14 @@ use Rattle.reg_layout.specs.Offsets.{in_four, page_of, place_of, access, hash_lo
 use Rattle.arbiter.specs.State.{holds}
 use Rattle.arbiter.specs.Rules.{start_counts}
 use Rattle.arbiter.specs.declared.Locality.{Locality}
-use Rattle.arbiter.specs.declared.Owner.{Owner}
+use Rattle.std.specs.Prelude.{Option}
 use Rattle.reg_map.specs.declared.Register.{Register}
 use Rattle.reg_map.specs.Map.{register_for}
 use Rattle.bus_resolve.specs.declared.WriteKind.{WriteKind}
 use Rattle.bus_resolve.specs.declared.WriteKind.TheVariants.{HashStart, HashEnd, HashData, Ignored, Ordinary}
 use Rattle.bus_resolve.specs.Resolve.{page_at, resolve}
 
-module _ (o : ℕ) (sequence : Bool) (owner : Owner) (s : Bool) (start : s ≡ in_four hash_start o) where
+module _ (o : ℕ) (sequence : Bool) (owner : Option Locality) (s : Bool) (start : s ≡ in_four hash_start o) where
   pub resolve_start : (c : Bool) (r : WriteKind) → s ≡ true → c ≡ start_counts owner → r ≡ cond c HashStart Ignored → r ≡ resolve o sequence owner
   unfolding resolve
   resolve_start c r t e h = h ∙ ap (λ (z : Bool). cond z HashStart Ignored) e ∙ sym (simp (sym start ∙ t))

@@ -6,9 +6,9 @@ ghost use Rattle.reg_layout.specs.Offsets.{in_four, page_of, hash_start};
 ghost use Rattle.bus_resolve.specs.declared.WriteKind.TheVariants.{Ignored};
 ghost use Rattle.bus_resolve.specs.Resolve.{page_at, resolve as resolve_spec};
 
+use arbiter::Locality;
 use arbiter::access::holds;
 use arbiter::transfer::start_counts;
-use arbiter::{Locality, Owner};
 use reg_layout::{ACCESS, HASH_DATA, HASH_END, HASH_LOCALITY, HASH_START, PAGE};
 use reg_map::{Register, register_at};
 
@@ -46,7 +46,7 @@ fn kind_if(b: bool, k: WriteKind) -> WriteKind
     WriteKind::Ignored
 }
 
-pub fn resolve(offset: u16, sequence: bool, owner: Owner) -> WriteKind
+pub fn resolve(offset: u16, sequence: bool, owner: Option<Locality>) -> WriteKind
     ensures { result ≡ resolve_spec offset sequence owner }
 {
     if in_four(HASH_START, offset) {

@@ -13,7 +13,8 @@ use Rattle.reg_layout.proofs.Within.{within_then}
 use Rattle.arbiter.specs.State.{holds}
 use Rattle.arbiter.specs.Rules.{start_counts, write_access, handover}
 use Rattle.arbiter.specs.declared.Change.{Change}
-use Rattle.arbiter.specs.declared.Owner.{Owner}
+use Rattle.arbiter.specs.declared.Locality.{Locality}
+use Rattle.std.specs.Prelude.{Option}
 use Rattle.arbiter.proofs.Cases.{handover_aborts}
 use Rattle.pcr.specs.Bank.{launched}
 use Rattle.record.specs.Limits.{hash_limit}
@@ -50,7 +51,7 @@ use Rattle.call_outcome.specs.Result.{Result, result}
 use Rattle.call_outcome.specs.declared.ReadOutcome.{ReadOutcome}
 use Rattle.call_bus.specs.Bus.{refused_read, seen, accepted_read, read_cycle, read_outcome, read, refused_write, done, accepted_write, resolved_write, write_cycle, left_by, write}
 
-abbrev pub owner : Device → Owner
+abbrev pub owner : Device → Option Locality
 owner d = d.control.arbiter.active
 
 -- ---- a read

@@ -16,8 +16,8 @@ use Rattle.arbiter_model.proofs.Invariant.{Sound, sound_fresh}
 use Rattle.arbiter.specs.Rules as rule
 use Rattle.arbiter.specs.Agreement.{Agrees, holder}
 use Rattle.arbiter.specs.declared.Arbiter.{Arbiter}
-use Rattle.arbiter.specs.declared.Owner.{Owner}
-use Rattle.arbiter.specs.declared.Owner.TheVariants.{Nobody, Held}
+use Rattle.arbiter.specs.declared.Locality.{Locality}
+use Rattle.std.specs.Prelude.{Option, Some, None}
 use Rattle.sha1_message.specs.declared.Stream.{Stream}
 use Rattle.sha1_block.specs.Sha1.{sha1}
 use Rattle.sha1_message.specs.Stream.{nothing as no_stream, begin, join, finish}
@@ -60,9 +60,9 @@ apart o i j =
 pub counts_same : {m : Model} {s : Arbiter} {o : Bool} → Agrees m s o → start_counts m.active ≡ rule.start_counts s.active
 counts_same {m} {s} a = ap start_counts a.active ∙ by s.active
   where
-    by : (w : Owner) → start_counts (holder w) ≡ rule.start_counts w
-    by Nobody = refl
-    by (Held y) = refl
+    by : (w : Option Locality) → start_counts (holder w) ≡ rule.start_counts w
+    by None = refl
+    by (Some y) = refl
 
 -- a page that is ignored but for hash data has a sequence open
 pub sequence_then : (o : ℕ) (sequence : Bool) → hash_page o sequence ≡ true → sequence ≡ true

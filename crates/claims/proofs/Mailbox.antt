@@ -16,8 +16,8 @@ use Rattle.arbiter.specs.Rules as rule
 use Rattle.arbiter.specs.Rules.{write_access}
 use Rattle.arbiter.specs.Agreement.{Agrees, holder}
 use Rattle.arbiter.specs.declared.Arbiter.{Arbiter}
-use Rattle.arbiter.specs.declared.Owner.{Owner}
-use Rattle.arbiter.specs.declared.Owner.TheVariants.{Nobody, Held}
+use Rattle.arbiter.specs.declared.Locality.{Locality}
+use Rattle.std.specs.Prelude.{Option, Some, None}
 use Rattle.arbiter_model.specs.Model as model
 use Rattle.arbiter_model.specs.Model.{Model, Holder, access_event, is_access, write_event, ignores_page, step, fresh}
 use Rattle.arbiter_model.specs.Waits.{run}
@@ -62,9 +62,9 @@ use Rattle.claims.proofs.Launch.{counts_same}
 pub active_same : {m : Model} {b : Arbiter} {q : Bool} (o : ℕ) → Agrees m b q → is_active m.active (page_of o) ≡ holds b.active (page_at o)
 active_same {b = b} o a = ap (λ (h : Holder). is_active h (page_of o)) a.active ∙ by b.active
   where
-    by : (w : Owner) → is_active (holder w) (page_of o) ≡ holds w (page_at o)
-    by Nobody = refl
-    by (Held y) = refl
+    by : (w : Option Locality) → is_active (holder w) (page_of o) ≡ holds w (page_at o)
+    by None = refl
+    by (Some y) = refl
 
 -- a test joined with one that fails
 and_false : (t : Bool) {u : Bool} → u ≡ false → (t && u) ≡ false

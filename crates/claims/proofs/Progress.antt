@@ -18,8 +18,7 @@ use Rattle.arbiter.specs.Agreement.{Agrees, holder}
 use Rattle.arbiter.specs.declared.Arbiter.{Arbiter}
 use Rattle.arbiter.specs.declared.Change.{Change}
 use Rattle.arbiter.specs.declared.Locality.{Locality}
-use Rattle.arbiter.specs.declared.Owner.{Owner}
-use Rattle.arbiter.specs.declared.Owner.TheVariants.{Nobody, Held}
+use Rattle.std.specs.Prelude.{Option, Some, None}
 use Rattle.arbiter.proofs.Cases as rule
 use Rattle.arbiter.proofs.Cases.{AccessCase, access_case}
 use Rattle.arbiter_model.specs.Model.{Model, held, fresh, step}
@@ -78,10 +77,10 @@ arbitrates : {m : Model} (b : Arbiter) (q : Bool) → Agrees m b q → Sound m �
 arbitrates {m} b q a h = by b.active refl
   where
     -- nobody waits
-    none : b.active ≡ Nobody → (y : ℕ) → y < 5 → get_or b.waiting y false ≡ false
+    none : b.active ≡ None → (y : ℕ) → y < 5 → get_or b.waiting y false ≡ false
     none e y l = sym (a.flags y) ∙ h.free_unasked (a.active ∙ ap holder e) y l
 
-    closed : b.active ≡ Nobody → (t : Bool) → q ≡ t → not t ≡ true
+    closed : b.active ≡ None → (t : Bool) → q ≡ t → not t ≡ true
     closed e true i = absurd (not_free (sym (h.open_held_by4 (a.sequence_open ∙ i)) ∙ a.active ∙ ap holder e))
     closed e false i = refl
 
@@ -89,14 +88,14 @@ arbitrates {m} b q a h = by b.active refl
     fourth y e true i = eq-eqb y 4 (held_same (sym e ∙ h.open_held_by4 (a.sequence_open ∙ i)))
     fourth y e false i = refl
 
-    by : (o : Owner) → b.active ≡ o → Arbitrates b q
-    by Nobody e = record {
+    by : (o : Option Locality) → b.active ≡ o → Arbitrates b q
+    by None e = record {
       known = rw e refl;
       free = rw e (rw (none e 0 (omega arith), none e 1 (omega arith), none e 2 (omega arith), none e 3 (omega arith), none e 4 (omega arith)) refl);
       own = rw e refl;
       opened = rw e (closed e q refl);
     }
-    by (Held y) e =
+    by (Some y) e =
         let i : m.active ≡ held y.0 = a.active ∙ ap holder e in
         record {
           known = rw e (lt-ltb y.0 5 (h.active_known y.0 i));
@@ -112,54 +111,54 @@ pub record Placed (d : Device) : Type 0 where
   pub phase : phase_placed d.phase (owner d) d.launch.sequence ≡ true
   pub hash : hash_counted d.launch.sequence d.launch.stream.count ≡ true
 
-idle_placed : (o : Owner) (q : Bool) → phase_placed Idle o q ≡ true
-idle_placed Nobody q = refl
-idle_placed (Held y) q = refl
+idle_placed : (o : Option Locality) (q : Bool) → phase_placed Idle o q ≡ true
+idle_placed None q = refl
+idle_placed (Some y) q = refl
 
 pub or_true : (t : Bool) → (t || true) ≡ true
 or_true true = refl
 or_true false = refl
 
 -- who is active may be in any phase while no sequence is open
-active_placed : (p : Phase) (o : Owner) (x : Locality) (q : Bool) → holds o x ≡ true → q ≡ false → phase_placed p o q ≡ true
-active_placed p Nobody x q h e = absurd (true≢false (sym h))
-active_placed p (Held y) x q h e = rw e (or_true (shape.idle p))
+active_placed : (p : Phase) (o : Option Locality) (x : Locality) (q : Bool) → holds o x ≡ true → q ≡ false → phase_placed p o q ≡ true
+active_placed p None x q h e = absurd (true≢false (sym h))
+active_placed p (Some y) x q h e = rw e (or_true (shape.idle p))
 
 -- the active locality commands, so no sequence is open
-no_sequence : (o : ℕ) (w : Owner) (q : Bool) → sequence_placed q w ≡ true → hash_page o q ≡ false → holds w (page_at o) ≡ true → q ≡ false
-no_sequence o Nobody q i h e = absurd (true≢false (sym e))
-no_sequence o (Held y) true i h e = absurd (true≢false (sym (eq-eqb (page_of o) 4 (sym (eqb-true y.0 (page_of o) e) ∙ eqb-true y.0 4 i)) ∙ h))
-no_sequence o (Held y) false i h e = refl
+no_sequence : (o : ℕ) (w : Option Locality) (q : Bool) → sequence_placed q w ≡ true → hash_page o q ≡ false → holds w (page_at o) ≡ true → q ≡ false
+no_sequence o None q i h e = absurd (true≢false (sym e))
+no_sequence o (Some y) true i h e = absurd (true≢false (sym (eq-eqb (page_of o) 4 (sym (eqb-true y.0 (page_of o) e) ∙ eqb-true y.0 4 i)) ∙ h))
+no_sequence o (Some y) false i h e = refl
 
 -- a device that was free
-taken_placed : (p : Phase) (x : Locality) (q : Bool) → phase_placed p Nobody q ≡ true → phase_placed p (Held x) q ≡ true
+taken_placed : (p : Phase) (x : Locality) (q : Bool) → phase_placed p None q ≡ true → phase_placed p (Some x) q ≡ true
 taken_placed p x q e = rw e refl
 
 joined_counted : (l : Launch) (v : ℕ) → l.sequence ≡ true → l.stream.count < hash_limit → hash_counted l.sequence (join l.stream v).count ≡ true
 unfolding join
 joined_counted l v e m = rw (e, le-leb (l.stream.count + 1) hash_limit (omega arith)) refl
 
-read_placed : (p : Phase) (o : Owner) (q : Bool) → phase_placed p o q ≡ true → phase_placed (after_read p) o q ≡ true
+read_placed : (p : Phase) (o : Option Locality) (q : Bool) → phase_placed p o q ≡ true → phase_placed (after_read p) o q ≡ true
 read_placed Idle o q e = e
 read_placed Ready o q e = e
 read_placed (Reception n) o q e = e
 read_placed (Execution n) o q e = e
 read_placed (Completion n k) o q e = by (ltb k n)
   where
-    on : (o : Owner) → phase_placed (Completion n k) o q ≡ true → phase_placed (Completion n (k + 1)) o q ≡ true
-    on Nobody e = e
-    on (Held y) e = e
+    on : (o : Option Locality) → phase_placed (Completion n k) o q ≡ true → phase_placed (Completion n (k + 1)) o q ≡ true
+    on None e = e
+    on (Some y) e = e
 
     by : (t : Bool) → phase_placed (cond t (Completion n (k + 1)) (Completion n k)) o q ≡ true
     by true = on o e
     by false = e
 
-answer_placed : (p : Phase) (n : ℕ) (o : Owner) (q : Bool) → executes p ≡ true → phase_placed p o q ≡ true → phase_placed (Completion n 0) o q ≡ true
+answer_placed : (p : Phase) (n : ℕ) (o : Option Locality) (q : Bool) → executes p ≡ true → phase_placed p o q ≡ true → phase_placed (Completion n 0) o q ≡ true
 answer_placed Idle n o q i e = absurd (true≢false (sym i))
 answer_placed Ready n o q i e = absurd (true≢false (sym i))
 answer_placed (Reception k) n o q i e = absurd (true≢false (sym i))
-answer_placed (Execution k) n Nobody q i e = e
-answer_placed (Execution k) n (Held y) q i e = e
+answer_placed (Execution k) n None q i e = e
+answer_placed (Execution k) n (Some y) q i e = e
 answer_placed (Completion k j) n o q i e = absurd (true≢false (sym i))
 
 fresh_placed : (established : Bool) (identity : List ℕ) (n : ℕ) → Placed (fresh_device established identity n)

@@ -8,8 +8,7 @@ use lib.Dec.{leb, eqb}
 use borrow.Author.Tests.{lt-ltb, le-ltb, le-leb, eqb-true, not-true, not-false}
 use Rattle.arbiter.specs.State.{any_waits, localities}
 use Rattle.arbiter.specs.declared.Locality.{Locality}
-use Rattle.arbiter.specs.declared.Owner.{Owner}
-use Rattle.arbiter.specs.declared.Owner.TheVariants.{Nobody, Held}
+use Rattle.std.specs.Prelude.{Option, Some, None}
 use Rattle.reg_layout.specs.Offsets.{hash_locality}
 use Rattle.record.specs.Limits.{hash_limit}
 use Rattle.record.specs.declared.HashProgress.{HashProgress}
@@ -79,35 +78,35 @@ unowned false (Execution n) s count c = refl
 unowned false (Completion n k) s count c = refl
 
 module _ (v : ShapeView) (c : ℕ) where
-  abbrev of_owner : Owner → Bool
+  abbrev of_owner : Option Locality → Bool
   of_owner o =
       active_known o && free_unasked o v.arbiter.waiting && active_unasked o v.arbiter.waiting && phase_placed v.phase o v.hash.sequence
       && counts_fit v.phase c && sequence_placed v.hash.sequence o && hash_counted v.hash.sequence v.hash.count
 
-  for_owner : (o : Owner) → v.arbiter.active ≡ o → in_shape v c ≡ of_owner o
+  for_owner : (o : Option Locality) → v.arbiter.active ≡ o → in_shape v c ≡ of_owner o
   unfolding in_shape
   for_owner o e = ap of_owner e
 
-  pub shape_free : (a i : Bool) → v.arbiter.active ≡ Nobody → a ≡ any_waits v.arbiter.waiting → i ≡ idle v.phase
+  pub shape_free : (a i : Bool) → v.arbiter.active ≡ None → a ≡ any_waits v.arbiter.waiting → i ≡ idle v.phase
       → (not a && i && not v.hash.sequence && eqb v.hash.count 0) ≡ in_shape v c
-  shape_free a i e w h = rw (w, h) (unowned (any_waits v.arbiter.waiting) v.phase v.hash.sequence v.hash.count c) ∙ sym (for_owner Nobody e)
+  shape_free a i e w h = rw (w, h) (unowned (any_waits v.arbiter.waiting) v.phase v.hash.sequence v.hash.count c) ∙ sym (for_owner None e)
 
-  module _ (y : Locality) (e : v.arbiter.active ≡ Held y) where
+  module _ (y : Locality) (e : v.arbiter.active ≡ Some y) where
     pub shape_unknown : localities ≤ y.0 → false ≡ in_shape v c
-    shape_unknown l = sym (for_owner (Held y) e ∙ simp (le-ltb y.0 localities l))
+    shape_unknown l = sym (for_owner (Some y) e ∙ simp (le-ltb y.0 localities l))
 
     module _ (l : y.0 < localities) where
       pub shape_asked : get_or v.arbiter.waiting y.0 false ≡ true → false ≡ in_shape v c
-      shape_asked a = sym (for_owner (Held y) e ∙ simp (lt-ltb y.0 localities l, a))
+      shape_asked a = sym (for_owner (Some y) e ∙ simp (lt-ltb y.0 localities l, a))
 
       module _ (a : get_or v.arbiter.waiting y.0 false ≡ false) (h : Bool) (f : h ≡ hash_fits y.0 v.hash) where
-        unasked : in_shape v c ≡ (phase_fits v.phase v.hash.sequence c && sequence_placed v.hash.sequence (Held y) && hash_counted v.hash.sequence v.hash.count)
-        unasked = for_owner (Held y) e ∙ simp (lt-ltb y.0 localities l, a)
+        unasked : in_shape v c ≡ (phase_fits v.phase v.hash.sequence c && sequence_placed v.hash.sequence (Some y) && hash_counted v.hash.sequence v.hash.count)
+        unasked = for_owner (Some y) e ∙ simp (lt-ltb y.0 localities l, a)
 
         pub shape_hash : not h ≡ true → false ≡ in_shape v c
         shape_hash n =
-            last_false (phase_fits v.phase v.hash.sequence c) (sequence_placed v.hash.sequence (Held y)) _ (sym f ∙ not-true h n) ∙ sym unasked
+            last_false (phase_fits v.phase v.hash.sequence c) (sequence_placed v.hash.sequence (Some y)) _ (sym f ∙ not-true h n) ∙ sym unasked
 
         pub shape_held : not h ≡ false → (r : Bool) → r ≡ phase_fits v.phase v.hash.sequence c → r ≡ in_shape v c
         shape_held n r q =
-            q ∙ last_true (phase_fits v.phase v.hash.sequence c) (sequence_placed v.hash.sequence (Held y)) _ (sym f ∙ not-false h n) ∙ sym unasked
+            q ∙ last_true (phase_fits v.phase v.hash.sequence c) (sequence_placed v.hash.sequence (Some y)) _ (sym f ∙ not-false h n) ∙ sym unasked

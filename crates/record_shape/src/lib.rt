@@ -5,7 +5,7 @@ ghost use Rattle.std.specs.Prelude.{◌≡◌};
 ghost use Rattle.record_shape.specs.Shape.{shape_view, view_of, lengths_allowed, idle as idle_spec, phase_fits, hash_fits, in_shape};
 
 use arbiter::access::any_waits;
-use arbiter::{Arbiter, LOCALITIES, Owner};
+use arbiter::{Arbiter, LOCALITIES};
 use record::limits::{FIFO_GREATEST, FIFO_LEAST, HASH_LIMIT, HEADER};
 use record::{Control, Device, HashProgress, Phase, hash_progress};
 use reg_layout::HASH_LOCALITY;
@@ -99,8 +99,8 @@ pub fn in_shape(v: ShapeView, c: u16) -> bool
     let owner = arbiter.active;
     let waiting = arbiter.waiting;
     match owner {
-        Owner::Nobody => { !any_waits(waiting) & idle(phase) & !hash.sequence & (hash.count == 0) }
-        Owner::Held(y) => {
+        None => { !any_waits(waiting) & idle(phase) & !hash.sequence & (hash.count == 0) }
+        Some(y) => {
             if LOCALITIES <= y.0 {
                 return false;
             }
