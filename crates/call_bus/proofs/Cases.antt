@@ -27,7 +27,7 @@ use Rattle.record.specs.declared.Phase.TheVariants.{Idle}
 use Rattle.reg_map.specs.Map.{register_at, register_for}
 use Rattle.reg_map.specs.declared.Register.{Register}
 use Rattle.reg_map.specs.declared.Register.TheVariants.{Access, Sts}
-use Rattle.reg_map.proofs.MapLaws.{Inert, register_elim, access_apart, fifo_apart, sts_is, at_sts}
+use Rattle.reg_map.proofs.MapLaws.{Inert, register_elim, access_apart, fifo_apart, at_sts}
 use Rattle.reg_sts_read.specs.Size.{declared_size}
 use Rattle.reg_interrupts.specs.Interrupts.{write_enable, write_status}
 use Rattle.reg_sts_write.specs.Completion.{ignored, bad_size}
@@ -99,7 +99,7 @@ module _ (d : Device) (w r : List ℕ) (o : ℕ) where
       register : register_for o ≡ Sts (place_of o % 4)
       register =
           let k : _ = within_then sts (sts + 2) (place_of o) i in
-          sym (at_sts (place_of o) (Sts (place_of o % 4)) (omega arith) (sts_is (place_of o % 4) (omega arith)))
+          sym (at_sts (place_of o) (omega arith) (omega arith))
 
 -- ---- a write
 
