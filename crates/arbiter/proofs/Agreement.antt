@@ -11,7 +11,7 @@ use Rattle.arbiter.specs.declared.Locality.{Locality}
 use Rattle.std.specs.Prelude.{Option, Some, None}
 use Rattle.arbiter.specs.declared.Arbiter.{Arbiter}
 use Rattle.arbiter.specs.declared.access.AccessCommand.{AccessCommand}
-use Rattle.arbiter.specs.declared.access.AccessCommand.TheVariants.{Nothing, RequestUse, ActiveLocality, Seize, BeenSeized}
+use Rattle.arbiter.specs.declared.access.AccessCommand.TheVariants.{RequestUse, ActiveLocality, Seize, BeenSeized}
 use Rattle.bits.specs.Bits.{bit}
 use Rattle.arbiter.specs.State.{locality, fresh_arbiter, with_active, with_waiting, with_seized, waits, holds}
 use Rattle.arbiter.specs.Rules as rule
@@ -40,12 +40,12 @@ highest_agrees (suc n) l = by (get_or l n false) (highest_agrees n l)
     by false ih = ih
 
 -- the event of a command of ACCESS in page x
-abbrev pub command_event : ℕ → AccessCommand → Event
-command_event x Nothing = nothing
-command_event x RequestUse = access x request_use
-command_event x ActiveLocality = access x active_locality
-command_event x Seize = access x seize
-command_event x BeenSeized = access x been_seized
+abbrev pub command_event : ℕ → Option AccessCommand → Event
+command_event x None = nothing
+command_event x (Some RequestUse) = access x request_use
+command_event x (Some ActiveLocality) = access x active_locality
+command_event x (Some Seize) = access x seize
+command_event x (Some BeenSeized) = access x been_seized
 
 -- the model and the rules read a byte written to ACCESS alike
 pub event_command : (x v : ℕ) → access_event x v ≡ command_event x (access_command v)
@@ -54,7 +54,7 @@ event_command x v = by (eqb (bit 5 v + bit 4 v + bit 3 v + bit 1 v) 1) (eqb (bit
   where
     by : (t₁ t₂ t₃ t₄ : Bool)
         → cond t₁ (cond t₂ (access x request_use) (cond t₃ (access x active_locality) (cond t₄ (access x seize) (access x been_seized)))) nothing
-        ≡ command_event x (cond t₁ (cond t₂ RequestUse (cond t₃ ActiveLocality (cond t₄ Seize BeenSeized))) Nothing)
+        ≡ command_event x (cond t₁ (Some (cond t₂ RequestUse (cond t₃ ActiveLocality (cond t₄ Seize BeenSeized)))) None)
     by true true t₃ t₄ = refl
     by true false true t₄ = refl
     by true false false true = refl
@@ -157,13 +157,13 @@ module _ {m : Model} {s : Arbiter} {o : Bool} (a : Agrees m s o) where
             at false = a
 
     -- a command of ACCESS in page x, which is not ignored
-    agree_command : Sound m → ignores_page m x.0 ≡ false → (k : AccessCommand) → Agrees (step m (command_event x.0 k)) (commanded k s x).arbiter o
+    agree_command : Sound m → ignores_page m x.0 ≡ false → (k : Option AccessCommand) → Agrees (step m (command_event x.0 k)) (commanded k s x).arbiter o
     unfolding clear_seized
-    agree_command d n Nothing = a
-    agree_command d n RequestUse = rw n agree_request
-    agree_command d n ActiveLocality = rw n agree_release
-    agree_command d n Seize = rw n (agree_seize d)
-    agree_command d n BeenSeized = rw n (unmarked x.0 false)
+    agree_command d n None = a
+    agree_command d n (Some RequestUse) = rw n agree_request
+    agree_command d n (Some ActiveLocality) = rw n agree_release
+    agree_command d n (Some Seize) = rw n (agree_seize d)
+    agree_command d n (Some BeenSeized) = rw n (unmarked x.0 false)
 
     pub agree_access : Sound m → ignores_page m x.0 ≡ false → (v : ℕ) → Agrees (step m (access_event x.0 v)) (write_access s x v).arbiter o
     unfolding write_access

@@ -8,7 +8,7 @@ use Rattle.std.specs.Prelude.{Option, Some, None}
 use Rattle.arbiter.specs.declared.Arbiter.{Arbiter}
 use Rattle.arbiter.specs.declared.Change.{Change}
 use Rattle.arbiter.specs.declared.access.AccessCommand.{AccessCommand}
-use Rattle.arbiter.specs.declared.access.AccessCommand.TheVariants.{Nothing, RequestUse, ActiveLocality, Seize, BeenSeized}
+use Rattle.arbiter.specs.declared.access.AccessCommand.TheVariants.{RequestUse, ActiveLocality, Seize, BeenSeized}
 use Rattle.arbiter.specs.State.{with_waiting, with_seized, waits, holds}
 use Rattle.arbiter.specs.Rules.{keeps_command, aborts_command, next_owner, serve, hand_to, handover, access_command, request_from, request, release, seize_from, seize, clear_seized, commanded, write_access}
 
@@ -66,9 +66,9 @@ module _ (s : Arbiter) (x : Locality) where
   unfolding write_access clear_seized
   access_case v = by (access_command v)
     where
-      by : (k : AccessCommand) → AccessCase s x (commanded k s x)
-      by Nothing = stays refl refl
-      by RequestUse = request_case
-      by ActiveLocality = release_case
-      by Seize = seize_case
-      by BeenSeized = stays refl refl
+      by : (k : Option AccessCommand) → AccessCase s x (commanded k s x)
+      by None = stays refl refl
+      by (Some RequestUse) = request_case
+      by (Some ActiveLocality) = release_case
+      by (Some Seize) = seize_case
+      by (Some BeenSeized) = stays refl refl

@@ -8,7 +8,7 @@ use Rattle.arbiter.specs.declared.Locality.{Locality}
 use Rattle.arbiter.specs.declared.Arbiter.{Arbiter}
 use Rattle.arbiter.specs.declared.Change.{Change}
 use Rattle.arbiter.specs.declared.access.AccessCommand.{AccessCommand}
-use Rattle.arbiter.specs.declared.access.AccessCommand.TheVariants.{Nothing, RequestUse, ActiveLocality, Seize, BeenSeized}
+use Rattle.arbiter.specs.declared.access.AccessCommand.TheVariants.{RequestUse, ActiveLocality, Seize, BeenSeized}
 use Rattle.arbiter.specs.State.{localities, locality, with_active, with_waiting, with_seized, waits, holds}
 
 -- a state with what follows from the change: nothing; both FIFOs emptied and Idle; that, and localityChange set
@@ -44,13 +44,13 @@ unfoldable pub handover : Arbiter → Change
 handover s = hand_to (next_owner s.waiting) s
 
 -- "A write counts bits 5, 4, 3 and 1 only; with none or more than one of them set it does nothing."
-unfoldable pub access_command : ℕ → AccessCommand
+unfoldable pub access_command : ℕ → Option AccessCommand
 access_command v =
     cond (eqb (bit access.active_locality v + bit access.been_seized v + bit access.seize v + bit access.request_use v) 1)
-    (cond (eqb (bit access.request_use v) 1) RequestUse
+    (Some (cond (eqb (bit access.request_use v) 1) RequestUse
     (cond (eqb (bit access.active_locality v) 1) ActiveLocality
-    (cond (eqb (bit access.seize v) 1) Seize BeenSeized)))
-    Nothing
+    (cond (eqb (bit access.seize v) 1) Seize BeenSeized))))
+    None
 
 -- "else x waits"
 abbrev pub queued : Arbiter → Locality → Arbiter
@@ -88,12 +88,12 @@ unfoldable pub clear_seized : Arbiter → Locality → Change
 clear_seized s x = keeps_command (with_seized s x.0 false)
 
 -- a byte written to ACCESS of page x
-abbrev pub commanded : AccessCommand → Arbiter → Locality → Change
-commanded Nothing s x = keeps_command s
-commanded RequestUse s x = request s x
-commanded ActiveLocality s x = release s x
-commanded Seize s x = seize s x
-commanded BeenSeized s x = clear_seized s x
+abbrev pub commanded : Option AccessCommand → Arbiter → Locality → Change
+commanded None s x = keeps_command s
+commanded (Some RequestUse) s x = request s x
+commanded (Some ActiveLocality) s x = release s x
+commanded (Some Seize) s x = seize s x
+commanded (Some BeenSeized) s x = clear_seized s x
 
 unfoldable pub write_access : Arbiter → Locality → ℕ → Change
 write_access s x v = commanded (access_command v) s x

@@ -1,13 +1,13 @@
 // How the device passes on: the next owner, the handover, and what a hash start does to ownership.
-ghost use Rattle.std.specs.Prelude.{◌≡◌, ◌<◌};
-ghost use Rattle.arbiter.specs.State.{localities};
+ghost use Rattle.std.specs.Prelude.{◌≡◌};
 ghost use Rattle.arbiter.specs.Rules.{next_owner, serve as serve_spec, handover as handover_spec, start_counts, hash_start};
 
-use crate::{Arbiter, Change, Locality, with_active};
+use crate::{Arbiter, Change, Locality, Page, with_active, with_waiting};
 use bits::flag_at;
 use reg_layout::HASH_LOCALITY;
 
 // The highest locality that waits, or nobody. Flag k stands at bit k of the mask, whose highest set bit is number 7 less the zeros above it.
+#[tactic(auto, using(crate::proofs::WaitingMask::highest_waits))]
 pub fn next_owner(waiting: [bool; 5]) -> Option<Locality>
     ensures { result ≡ next_owner waiting }
 {
@@ -19,39 +19,29 @@ pub fn next_owner(waiting: [bool; 5]) -> Option<Locality>
     if mask == 0 {
         return None;
     }
-    let zeros = u8::leading_zeros(mask);
+    let zeros = mask.leading_zeros();
     Some(Locality((7 - zeros) as u8))
 }
 
-pub fn serve(s: Arbiter, y: Locality) -> Arbiter
-    requires { y.0 < localities }
-    ensures { result ≡ serve_spec s y }
+pub fn serve(s: Arbiter, y: Page) -> Arbiter
+    ensures { result ≡ serve_spec s y.locality }
 {
-    let i = y.0 as usize;
-    let mut waiting = s.waiting;
-    waiting[i] = false;
-    let seized = s.seized;
-    Arbiter {
-        active: Some(y),
-        waiting,
-        seized,
-    }
+    with_active(with_waiting(s, y, false), Some(y.locality))
 }
 
 // The one handover, of a release and of a hash end: the highest waiting locality is served, or the device is free.
+#[tactic(auto, unfolding(crate::specs::Rules::handover))]
 pub fn handover(s: Arbiter) -> Change
     ensures { result ≡ handover_spec s }
 {
-    let waiting = s.waiting;
-    let next = next_owner(waiting);
-    match next {
+    match next_owner(s.waiting) {
         None => Change {
-            arbiter: with_active(s, next),
+            arbiter: with_active(s, None),
             abort: true,
             locality_change: false,
         },
         Some(y) => Change {
-            arbiter: serve(s, y),
+            arbiter: serve(s, Page { locality: y }),
             abort: true,
             locality_change: true,
         },
@@ -61,10 +51,7 @@ pub fn handover(s: Arbiter) -> Change
 pub fn start_counts(o: Option<Locality>) -> bool
     ensures { result ≡ start_counts o }
 {
-    match o {
-        None => true,
-        Some(y) => y.0 == HASH_LOCALITY,
-    }
+    matches!(o, None | Some(Locality(HASH_LOCALITY)))
 }
 
 // A start that counts.

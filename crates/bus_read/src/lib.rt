@@ -1,11 +1,10 @@
 // An accepted read (document 01, 'The pages'): what each register gives, and what the read does to the phase.
 #![tactic(auto)]
 
-ghost use Rattle.std.specs.Prelude.{◌≡◌, ◌<◌, get_or};
-ghost use Rattle.arbiter.specs.State.{localities};
+ghost use Rattle.std.specs.Prelude.{◌≡◌, get_or};
 ghost use Rattle.bus_read.specs.Reading.{read_sts, unmoved as unmoved_spec, read_data_fifo, register_read};
 
-use arbiter::Locality;
+use arbiter::Page;
 use record::{Control, Phase};
 use reg_access::access_byte;
 use reg_fifo::{after_read, fifo_byte};
@@ -60,7 +59,7 @@ fn unmoved(byte: u8, phase: Phase) -> RegisterRead
 #[tactic(auto, unfolding(crate::specs::Reading::register_read))]
 pub fn register_read(
     g: Register,
-    x: Locality,
+    x: Page,
     active: bool,
     control: Control,
     phase: Phase,
@@ -68,8 +67,7 @@ pub fn register_read(
     sizes: Sizes,
     read_fifo: &[u8],
 ) -> RegisterRead
-    requires { x.0 < localities }
-    ensures { result ≡ register_read g x active control phase identity sizes.declared sizes.fifo read_fifo.now }
+    ensures { result ≡ register_read g x.locality active control phase identity sizes.declared sizes.fifo read_fifo.now }
 {
     match g {
         Register::Access => unmoved(access_byte(control.arbiter, control.established, x), phase),

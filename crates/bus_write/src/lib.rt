@@ -1,14 +1,13 @@
 // An accepted write (document 01, 'The pages' to 'The launch hash'): what it does to control, phase and FIFOs.
 #![tactic(auto)]
 
-ghost use Rattle.std.specs.Prelude.{◌≡◌, ◌<◌};
-ghost use Rattle.arbiter.specs.State.{localities};
+ghost use Rattle.std.specs.Prelude.{◌≡◌};
 ghost use Rattle.bus_write.specs.Effect.{ignored as ignored_spec, aborted as aborted_spec, changed_control, apply_change, apply_command, apply_interrupts};
 ghost use Rattle.bus_write.specs.Writing.{start_effect, register_write, write_effect};
 
 use arbiter::access::write_access;
 use arbiter::transfer::{handover, hash_start};
-use arbiter::{Change, Locality};
+use arbiter::{Change, Page};
 use bus_resolve::WriteKind;
 use record::{Causes, Control, Interrupts, Phase};
 use reg_fifo::FifoAction;
@@ -107,14 +106,13 @@ fn start_effect(control: Control) -> Effect
 #[tactic(auto, unfolding(crate::specs::Writing::register_write))]
 fn register_write(
     g: Register,
-    x: Locality,
+    x: Page,
     control: Control,
     phase: Phase,
     sizes: Sizes,
     v: u8,
 ) -> Effect
-    requires { x.0 < localities }
-    ensures { result ≡ register_write g x control phase sizes.declared sizes.fifo v }
+    ensures { result ≡ register_write g x.locality control phase sizes.declared sizes.fifo v }
 {
     match g {
         Register::Access => apply_change(control, phase, write_access(control.arbiter, x, v)),
@@ -150,14 +148,13 @@ fn apply_interrupts(control: Control, phase: Phase, interrupts: Interrupts) -> E
 #[tactic(auto, unfolding(crate::specs::Writing::write_effect))]
 pub fn write_effect(
     kind: WriteKind,
-    x: Locality,
+    x: Page,
     control: Control,
     phase: Phase,
     sizes: Sizes,
     v: u8,
 ) -> Effect
-    requires { x.0 < localities }
-    ensures { result ≡ write_effect kind x control phase sizes.declared sizes.fifo v }
+    ensures { result ≡ write_effect kind x.locality control phase sizes.declared sizes.fifo v }
 {
     match kind {
         WriteKind::HashStart => start_effect(control),

@@ -5,6 +5,7 @@ ghost use Rattle.record.specs.Limits.{fifo_least, fifo_greatest};
 ghost use Rattle.call_bus.specs.Bus.{accepted_read, read_cycle, read as read_spec};
 
 use crate::cycle_refusal;
+use arbiter::Page;
 use arbiter::access::holds;
 use bus_read::register_read;
 use bus_resolve::page_at;
@@ -23,6 +24,7 @@ pub struct ReadCycle {
     pub phase: Phase,
 }
 
+#[tactic(auto, unfolding(crate::specs::Bus::accepted_read))]
 fn accepted_read(
     offset: u16,
     control: Control,
@@ -36,11 +38,11 @@ fn accepted_read(
 {
     let arbiter = control.arbiter;
     let owner = arbiter.active;
-    let x = page_at(offset);
+    let locality = page_at(offset);
     let s = register_read(
         register_at(offset % PAGE),
-        x,
-        holds(owner, x),
+        Page { locality },
+        holds(owner, locality),
         control,
         phase,
         identity,

@@ -6,6 +6,7 @@ ghost use Rattle.call_outcome.specs.Result.{Leaves};
 ghost use Rattle.call_bus.specs.Bus.{refused_write, accepted_write, write_cycle, Cycled, write as write_spec};
 
 use crate::cycle_refusal;
+use arbiter::Page;
 use bus_resolve::{WriteKind, page_at, resolve};
 use bus_write::write_effect;
 use call_outcome::Outcome;
@@ -50,10 +51,11 @@ fn accepted_write(
     requires { (offset ≤ last_offset) × (fifo_least ≤ length write_fifo.old) × (length write_fifo.old ≤ fifo_greatest) × (length read_fifo.old ≡ length write_fifo.old) }
     ensures { Cycled result write_fifo.old read_fifo.old byte write_fifo.new read_fifo.new (accepted_write kind offset control phase write_fifo.old byte) }
 {
-    let x = page_at(offset);
     let e = write_effect(
         kind,
-        x,
+        Page {
+            locality: page_at(offset),
+        },
         control,
         phase,
         Sizes::of(write_fifo),

@@ -11,7 +11,7 @@ use Rattle.arbiter.specs.declared.Change.{Change}
 use Rattle.arbiter.specs.declared.Locality.{Locality}
 use Rattle.std.specs.Prelude.{Option, Some, None}
 use Rattle.arbiter.specs.declared.access.AccessCommand.{AccessCommand}
-use Rattle.arbiter.specs.declared.access.AccessCommand.TheVariants.{Nothing, RequestUse, ActiveLocality, Seize, BeenSeized}
+use Rattle.arbiter.specs.declared.access.AccessCommand.TheVariants.{RequestUse, ActiveLocality, Seize, BeenSeized}
 use Rattle.arbiter.proofs.Agreement.{command_event, event_command, highest_agrees}
 use Rattle.arbiter.proofs.Cases.{handover_aborts}
 use Rattle.arbiter_model.specs.Model as model
@@ -70,13 +70,13 @@ module _ {m : Model} {b : Arbiter} {q : Bool} (x : ℕ) (a : Agrees m b q) (h : 
   abbrev Told : Event → Change → Type 0
   Told e z = Same (aborts m e) (hands_over m e && somebody) z
 
-  by_command : (k : AccessCommand) → Told (command_event x k) (commanded k b (locality x))
+  by_command : (k : Option AccessCommand) → Told (command_event x k) (commanded k b (locality x))
   unfolding request release seize clear_seized
-  by_command Nothing = (refl, refl)
-  by_command RequestUse = rw h (asks b.active)
-  by_command ActiveLocality = rw (h, a.active) (releases b.active (waits b x))
-  by_command Seize = rw (h, a.active) (takes b.active)
-  by_command BeenSeized = rw h (refl, refl)
+  by_command None = (refl, refl)
+  by_command (Some RequestUse) = rw h (asks b.active)
+  by_command (Some ActiveLocality) = rw (h, a.active) (releases b.active (waits b x))
+  by_command (Some Seize) = rw (h, a.active) (takes b.active)
+  by_command (Some BeenSeized) = rw h (refl, refl)
 
   pub change_same : (v : ℕ) → Told (access_event x v) (write_access b (locality x) v)
   unfolding write_access

@@ -18,7 +18,7 @@ use Rattle.arbiter.specs.declared.Arbiter.{Arbiter}
 use Rattle.arbiter.specs.declared.Locality.{Locality}
 use Rattle.std.specs.Prelude.{Option, Some, None}
 use Rattle.arbiter.specs.declared.access.AccessCommand.{AccessCommand}
-use Rattle.arbiter.specs.declared.access.AccessCommand.TheVariants.{Nothing, RequestUse, ActiveLocality, Seize, BeenSeized}
+use Rattle.arbiter.specs.declared.access.AccessCommand.TheVariants.{RequestUse, ActiveLocality, Seize, BeenSeized}
 use Rattle.arbiter.proofs.Agreement.{command_event, event_command, get_or_put}
 use Rattle.arbiter_model.specs.Model as model
 use Rattle.arbiter_model.specs.Model.{Model, held, Event, access_event, is_access, write_event, put, highest, ignores_page, fresh}
@@ -126,12 +126,12 @@ module _ {m : Model} {b : Arbiter} {q : Bool} (x : ℕ) (a : Agrees m b q) (h : 
           }
           on false = k
 
-      by : (j : AccessCommand) → Marks (commanded j b (locality x)).arbiter (marked m (command_event x j) w)
-      by Nothing = k
-      by RequestUse = rw h (asks b.active)
-      by ActiveLocality = rw h (releases (holds b.active (locality x)) (waits b x))
-      by Seize = rw (h, a.active) (takes b.active refl)
-      by BeenSeized = rw h (record { flags = λ z. put_mark b.seized w x z false (omega (arith, k.count)) k.flags; count = length-set b.seized x false ∙ k.count })
+      by : (j : Option AccessCommand) → Marks (commanded j b (locality x)).arbiter (marked m (command_event x j) w)
+      by None = k
+      by (Some RequestUse) = rw h (asks b.active)
+      by (Some ActiveLocality) = rw h (releases (holds b.active (locality x)) (waits b x))
+      by (Some Seize) = rw (h, a.active) (takes b.active refl)
+      by (Some BeenSeized) = rw h (record { flags = λ z. put_mark b.seized w x z false (omega (arith, k.count)) k.flags; count = length-set b.seized x false ∙ k.count })
 
 -- ---- what a write to STS or the FIFO raises
 
