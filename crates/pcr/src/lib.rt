@@ -7,10 +7,10 @@ pub mod table;
 pub const PCRS: usize = 24;
 
 // A type of its own, so that no locality is taken for a PCR.
-#[derive(Clone, Copy)]
+#[derive(Clone, Copy, PartialEq, Eq, Debug)]
 pub struct PcrIndex(pub u8);
 
-#[derive(Clone, Copy)]
+#[derive(Clone, Copy, PartialEq, Eq, Debug)]
 pub struct Pcr {
     pub bytes: [u8; 20],
 }
