@@ -23,6 +23,7 @@ pub struct ReadCycle {
     pub phase: Phase,
 }
 
+#[tactic(auto, unfolding(crate::specs::Bus::accepted_read))]
 fn accepted_read(
     offset: u16,
     control: Control,
