@@ -4,6 +4,7 @@ use mathlib.Core.Bool.{Bool, true, false, cond, ◌&&◌, ◌||◌, true≢false
 use mathlib.Core.List.{List, [], ◌∷◌, ◌++◌}
 use mathlib.Core.Logic.{◌⊎◌, inl, inr}
 use Prim.Native.Nat.{ℕ, ◌+◌, ◌-◌, ◌/◌, ◌≤◌, ◌<◌, ◌%◌, ◌^◌}
+use Rattle.std.specs.Prelude.{Option}
 use native.Mathlib.Omega.{arith}
 use lib.ListN.{length, get_or, take, replicate}
 use lib.Seq.{take-append_seam}
@@ -238,7 +239,7 @@ module _ {a : List ℕ} {j : ℕ} where
         goes_if : is_tpm_go v ≡ true → (b : Mailbox) → may_go c b ≡ true → goes c m b o v ≡ true
         goes_if i b f = rw (g, i, f) refl
 
-        by : {r g t : Bool} {k : StsCommand} → StsCase r g t k → is_tpm_go v ≡ g
+        by : {r g t : Bool} {k : Option StsCommand} → StsCase r g t k → is_tpm_go v ≡ g
             → (cond r (mail (after_command_ready q.box) q.run) (cond g (after_tpm_go c q.box q.run) (cond t (mail (after_retry q.box) q.run) q))).box ≡ answering a j
             → Comes c m q.box (write o v) accepted a
         by orders.readies i e = ready_comes q.box e

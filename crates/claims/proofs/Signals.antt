@@ -178,7 +178,7 @@ module _ (c : ℕ) (l : fifo_least ≤ c) where
       → (commanded_by (sts_command v) (phase_of b) n (size_in b) (length_in b)).causes ≡ causes (is_command_ready v && is_idle b) (is_tpm_go v && may_go c b && not (size_runs c b))
   order_raises b n v f = by (sts_case v)
     where
-      by : {r g t : Bool} {k : StsCommand} → StsCase r g t k → (commanded_by k (phase_of b) n (size_in b) (length_in b)).causes ≡ causes (r && is_idle b) (g && may_go c b && not (size_runs c b))
+      by : {r g t : Bool} {k : Option StsCommand} → StsCase r g t k → (commanded_by k (phase_of b) n (size_in b) (length_in b)).causes ≡ causes (r && is_idle b) (g && may_go c b && not (size_runs c b))
       by orders.readies = ready_raises b n
       by orders.goes = go_raises b n f
       by orders.retries = retry_raises b n

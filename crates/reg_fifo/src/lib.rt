@@ -3,7 +3,7 @@
 
 ghost use Rattle.std.specs.Prelude.{◌≡◌, ◌≤◌, length};
 ghost use Rattle.reg_fifo.specs.declared.FifoAction.TheVariants.{Store};
-ghost use Rattle.reg_fifo.specs.Fifo.{clear_fifo, put_answer, update_write_fifo, update_read_fifo, fifo_byte, after_read};
+ghost use Rattle.reg_fifo.specs.Fifo.{clear_fifo, update_write_fifo, update_read_fifo, fifo_byte, after_read};
 
 use record::Phase;
 
@@ -21,16 +21,6 @@ pub fn clear_fifo(b: &mut [u8])
     ensures { b.new ≡ clear_fifo b.old }
 {
     b.fill(0);
-}
-
-// The answer at the front, 00h after it.
-fn put_answer(b: &mut [u8], a: &[u8])
-    requires { length a.now ≤ length b.old }
-    ensures { b.new ≡ put_answer a.now b.old }
-{
-    let n = a.len();
-    b[..n].copy_from_slice(a);
-    b[n..].fill(0);
 }
 
 fn store(w: &mut [u8], n: u16, v: u8)
@@ -60,7 +50,11 @@ fn update_read_fifo(f: FifoAction, r: &mut [u8], a: &[u8])
     match f {
         FifoAction::Keep | FifoAction::Store(_) => {}
         FifoAction::Clear => clear_fifo(r),
-        FifoAction::Complete => put_answer(r, a),
+        // The answer at the front, 00h after it.
+        FifoAction::Complete => {
+            r[..a.len()].copy_from_slice(a);
+            r[a.len()..].fill(0);
+        }
     }
 }
 
