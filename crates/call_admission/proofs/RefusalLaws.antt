@@ -60,6 +60,19 @@ module _ (v : ShapeView) (l : Lengths) where
         by None false c q = absurd (some_refused _ q)
         by (Some r) b c q = absurd (some_refused _ q)
 
+  -- what a later test is not asked, and another run's answer
+  pub bus_lent : (o : ℕ) (f : Refusal) → lent_refusal v l ≡ Some f → bus_refusal v l o ≡ Some f
+  unfolding bus_refusal
+  bus_lent o f e = rw e refl
+
+  pub answer_lent : (current answered k : ℕ) (f : Refusal) → lent_refusal v l ≡ Some f → answer_refusal v l current answered k ≡ Some f
+  unfolding answer_refusal
+  answer_lent current answered k f e = rw e refl
+
+  pub answer_run : (current answered k : ℕ) → lent_refusal v l ≡ None → (executes v.phase && eqb current answered) ≡ false → answer_refusal v l current answered k ≡ Some Run
+  unfolding answer_refusal
+  answer_run current answered k e f = rw (e, f) refl
+
 -- the same of lent FIFOs, whose lengths are l
 module _ (v : ShapeView) (w r : List ℕ) (l : Lengths) (lent : l ≡ lengths_of w r) where
   lent_allowed : lent_refusal v l ≡ None → Allowed (lengths_of w r)

@@ -20,6 +20,10 @@ pub number_accepted : (n : Option Refusal) → number_of n ≡ accepted → n �
 number_accepted None e = refl
 number_accepted (Some r) e = absurd (number_positive r e)
 
+-- and no refusal of a refused one
+pub number_refused : (n : Option Refusal) → (n ≡ None → ⊥) → number_of n ≡ accepted → ⊥
+number_refused n f e = f (number_accepted n e)
+
 -- the test on a refusal, and what it says
 pub accepts_true : (n : Option Refusal) → accepts n ≡ true → n ≡ None
 accepts_true None e = refl
