@@ -26,7 +26,8 @@ use Rattle.pcr.specs.Bank as bank
 use Rattle.pcr.specs.Bank.{pcrs, pcr, all_bytes, value_at, replaced, with_dynamic, launched}
 use Rattle.pcr.specs.declared.Pcr.{Pcr}
 use Rattle.pcr.proofs.BankAt.{launched_at, replaced_at}
-use Rattle.refusal.specs.Refusal.{accepted}
+use Rattle.refusal.specs.Refusal.{accepted, number_of}
+use Rattle.refusal.proofs.RefusalNumbers.{number_refused}
 use Rattle.record.specs.Record.{fresh_device}
 use Rattle.record.specs.declared.Device.{Device}
 use Rattle.record.specs.declared.Launch.{Launch}
@@ -249,9 +250,9 @@ accepted_write_lem : (s : State) (o v : ℕ) → refusal_of (write o v) s ≡ ac
     → Writes s.device s.write_fifo s.read_fifo o v (left (write o v) s).device (left (write o v) s).write_fifo (left (write o v) s).read_fifo
 accepted_write_lem s o v e = by _ (write_case s.device s.write_fifo s.read_fifo o v) e
   where
-    by : (t : Result) → WriteCase s.device s.write_fifo s.read_fifo o v t → t.refusal ≡ accepted
+    by : (t : Result) → WriteCase s.device s.write_fifo s.read_fifo o v t → number_of t.refusal ≡ accepted
         → Writes s.device s.write_fifo s.read_fifo o v t.device t.write_fifo t.read_fifo
-    by t (bus.refused e f) q = absurd (f q)
+    by t (bus.refused {n = n} e f) q = absurd (number_refused n f q)
     by t (bus.overlong e h i l) q = absurd (omega arith)
     by t (bus.accepts e k) q = k
 

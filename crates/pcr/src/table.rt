@@ -5,6 +5,7 @@ ghost use Rattle.pcr.specs.Permission.{in_mask, by_mask, permission as permissio
 use crate::{PCRS, PcrIndex, Permission};
 use arbiter::{LOCALITIES, Locality, Page};
 use bits::is_set;
+use refusal::Refusal;
 
 // Locality k is bit k of a mask, so that a table keeps TIS Table 4's form, one entry to a PCR.
 const RESET_LOCALITIES: [u8; PCRS] = [
@@ -63,7 +64,7 @@ const EXTEND_LOCALITIES: [u8; PCRS] = [
 
 // A PCR above 23 or a locality above 4.
 const REFUSED: Permission = Permission {
-    refusal: refusal::QUESTION,
+    refusal: Some(Refusal::Question),
     allowed: false,
 };
 
@@ -87,7 +88,7 @@ fn permission(masks: [u8; PCRS], p: PcrIndex, x: Locality) -> Permission
         return REFUSED;
     }
     Permission {
-        refusal: refusal::ACCEPTED,
+        refusal: None,
         allowed: in_mask(masks[i], Page { locality: x }),
     }
 }

@@ -2,7 +2,7 @@
 #![tactic(auto)]
 
 ghost use Rattle.std.specs.Prelude.{◌≡◌};
-ghost use Rattle.record_shape.specs.Shape.{shape_view, view_of, lengths_allowed, idle as idle_spec, phase_fits, hash_fits, in_shape};
+ghost use Rattle.record_shape.specs.Shape.{shape_view, view_of, lengths_of, lengths_allowed, idle as idle_spec, phase_fits, hash_fits, in_shape};
 
 use arbiter::access::any_waits;
 use arbiter::{Arbiter, LOCALITIES};
@@ -15,6 +15,15 @@ use reg_layout::HASH_LOCALITY;
 pub struct Lengths {
     pub write: usize,
     pub read: usize,
+}
+
+pub fn lengths_of(write_fifo: &[u8], read_fifo: &[u8]) -> Lengths
+    ensures { result ≡ lengths_of write_fifo.now read_fifo.now }
+{
+    Lengths {
+        write: write_fifo.len(),
+        read: read_fifo.len(),
+    }
 }
 
 // What the shape rule reads of a record.
