@@ -8,11 +8,10 @@ use lib.Seq.{get_or-set_same, get_or-set_other}
 use lib.Dec.{eqb, ltb}
 use borrow.Author.Tests.{eqb-true, eqb-false}
 use Rattle.arbiter.specs.declared.Locality.{Locality}
-use Rattle.arbiter.specs.declared.Owner.{Owner}
-use Rattle.arbiter.specs.declared.Owner.TheVariants.{Nobody, Held}
+use Rattle.std.specs.Prelude.{Option, Some, None}
 use Rattle.arbiter.specs.declared.Arbiter.{Arbiter}
 use Rattle.arbiter.specs.declared.access.AccessCommand.{AccessCommand}
-use Rattle.arbiter.specs.declared.access.AccessCommand.TheVariants.{Nothing, RequestUse, ActiveLocality, Seize, BeenSeized}
+use Rattle.arbiter.specs.declared.access.AccessCommand.TheVariants.{RequestUse, ActiveLocality, Seize, BeenSeized}
 use Rattle.bits.specs.Bits.{bit}
 use Rattle.arbiter.specs.State.{locality, fresh_arbiter, with_active, with_waiting, with_seized, waits, holds}
 use Rattle.arbiter.specs.Rules as rule
@@ -36,17 +35,17 @@ highest_agrees zero l = refl
 highest_agrees (suc n) l = by (get_or l n false) (highest_agrees n l)
   where
     by : (t : Bool) → highest_below n (λ y. get_or l y false) ≡ holder (rule.highest_below n l)
-        → cond t (held n) (highest_below n (λ y. get_or l y false)) ≡ holder (cond t (Held (locality n)) (rule.highest_below n l))
+        → cond t (held n) (highest_below n (λ y. get_or l y false)) ≡ holder (cond t (Some (locality n)) (rule.highest_below n l))
     by true ih = refl
     by false ih = ih
 
 -- the event of a command of ACCESS in page x
-abbrev pub command_event : ℕ → AccessCommand → Event
-command_event x Nothing = nothing
-command_event x RequestUse = access x request_use
-command_event x ActiveLocality = access x active_locality
-command_event x Seize = access x seize
-command_event x BeenSeized = access x been_seized
+abbrev pub command_event : ℕ → Option AccessCommand → Event
+command_event x None = nothing
+command_event x (Some RequestUse) = access x request_use
+command_event x (Some ActiveLocality) = access x active_locality
+command_event x (Some Seize) = access x seize
+command_event x (Some BeenSeized) = access x been_seized
 
 -- the model and the rules read a byte written to ACCESS alike
 pub event_command : (x v : ℕ) → access_event x v ≡ command_event x (access_command v)
@@ -55,7 +54,7 @@ event_command x v = by (eqb (bit 5 v + bit 4 v + bit 3 v + bit 1 v) 1) (eqb (bit
   where
     by : (t₁ t₂ t₃ t₄ : Bool)
         → cond t₁ (cond t₂ (access x request_use) (cond t₃ (access x active_locality) (cond t₄ (access x seize) (access x been_seized)))) nothing
-        ≡ command_event x (cond t₁ (cond t₂ RequestUse (cond t₃ ActiveLocality (cond t₄ Seize BeenSeized))) Nothing)
+        ≡ command_event x (cond t₁ (Some (cond t₂ RequestUse (cond t₃ ActiveLocality (cond t₄ Seize BeenSeized)))) None)
     by true true t₃ t₄ = refl
     by true false true t₄ = refl
     by true false false true = refl
@@ -80,7 +79,7 @@ module _ {m : Model} {s : Arbiter} {o : Bool} (a : Agrees m s o) where
   put_flag x v l = record { active = a.active; flags = flag x v l; sequence_open = a.sequence_open; flag_count = length-set s.waiting x v ∙ a.flag_count }
 
   -- another owner in both
-  own : (w : Owner) → Agrees (record { active = holder w; waiting = m.waiting; sequence = m.sequence }) (with_active s w) o
+  own : (w : Option Locality) → Agrees (record { active = holder w; waiting = m.waiting; sequence = m.sequence }) (with_active s w) o
   own w = record { active = refl; flags = a.flags; sequence_open = a.sequence_open; flag_count = a.flag_count }
 
   -- the model knows no seized mark
@@ -96,9 +95,9 @@ module _ {m : Model} {s : Arbiter} {o : Bool} (a : Agrees m s o) where
   unfolding rule.handover
   agree_handover = by (next_owner s.waiting) is_highest
     where
-      by : (w : Owner) → highest m.waiting ≡ holder w → Agrees (handover m) (hand_to w s).arbiter o
-      by Nobody e = rw e (own Nobody)
-      by (Held y) e =
+      by : (w : Option Locality) → highest m.waiting ≡ holder w → Agrees (handover m) (hand_to w s).arbiter o
+      by None e = rw e (own None)
+      by (Some y) e =
           let f : Agrees (record { active = m.active; waiting = put m.waiting y.0 false; sequence = m.sequence }) (with_waiting s y.0 false) o =
           put_flag y.0 false (highest_held 5 m.waiting y.0 e).below in
           rw e (record { active = refl; flags = f.flags; sequence_open = a.sequence_open; flag_count = f.flag_count })
@@ -117,9 +116,9 @@ module _ {m : Model} {s : Arbiter} {o : Bool} (a : Agrees m s o) where
     unfolding rule.request
     agree_request = subst (λ (h : Holder). Agrees (access_step request_use h x.0 m) (rule.request s x).arbiter o) (sym a.active) (by s.active)
       where
-        by : (w : Owner) → Agrees (access_step request_use (holder w) x.0 m) (request_from w s x).arbiter o
-        by Nobody = own (Held x)
-        by (Held y) = at (eqb y.0 x.0)
+        by : (w : Option Locality) → Agrees (access_step request_use (holder w) x.0 m) (request_from w s x).arbiter o
+        by None = own (Some x)
+        by (Some y) = at (eqb y.0 x.0)
           where
             at : (t : Bool) → Agrees (cond t m (wait x.0 m)) (cond t (keeps_command s) (keeps_command (with_waiting s x.0 true))).arbiter o
             at true = a
@@ -129,9 +128,9 @@ module _ {m : Model} {s : Arbiter} {o : Bool} (a : Agrees m s o) where
     unfolding rule.release
     agree_release = subst (λ (h : Holder). Agrees (access_step active_locality h x.0 m) (rule.release s x).arbiter o) (sym a.active) (by s.active)
       where
-        by : (w : Owner) → Agrees (access_step active_locality (holder w) x.0 m) (cond (holds w x) (rule.handover s) (cond (waits s x.0) (keeps_command (with_waiting s x.0 false)) (keeps_command s))).arbiter o
-        by Nobody = agree_withdraw
-        by (Held y) = at (eqb y.0 x.0)
+        by : (w : Option Locality) → Agrees (access_step active_locality (holder w) x.0 m) (cond (holds w x) (rule.handover s) (cond (waits s x.0) (keeps_command (with_waiting s x.0 false)) (keeps_command s))).arbiter o
+        by None = agree_withdraw
+        by (Some y) = at (eqb y.0 x.0)
           where
             at : (t : Bool) → Agrees (cond t (handover m) (cond (m.waiting x.0) (withdraw x.0 m) m)) (cond t (rule.handover s) (cond (waits s x.0) (keeps_command (with_waiting s x.0 false)) (keeps_command s))).arbiter o
             at true = agree_handover
@@ -149,22 +148,22 @@ module _ {m : Model} {s : Arbiter} {o : Bool} (a : Agrees m s o) where
             at true q = sym (d.free_unasked e y (rw (eqb-true y x.0 q) l)) ∙ a.flags y
             at false q = a.flags y
 
-        by : (w : Owner) → s.active ≡ w → Agrees (access_step seize (holder w) x.0 m) (seize_from w s x).arbiter o
-        by Nobody e = record { active = refl; flags = unqueued (a.active ∙ ap holder e); sequence_open = a.sequence_open; flag_count = a.flag_count }
-        by (Held y) e = at (ltb y.0 x.0)
+        by : (w : Option Locality) → s.active ≡ w → Agrees (access_step seize (holder w) x.0 m) (seize_from w s x).arbiter o
+        by None e = record { active = refl; flags = unqueued (a.active ∙ ap holder e); sequence_open = a.sequence_open; flag_count = a.flag_count }
+        by (Some y) e = at (ltb y.0 x.0)
           where
             at : (t : Bool) → Agrees (cond t (acquire x.0 m) m) (cond t (aborts_command (with_seized (rule.serve s x) y.0 true)) (keeps_command s)).arbiter o
             at true = record { active = refl; flags = flag x.0 false l; sequence_open = a.sequence_open; flag_count = length-set s.waiting x.0 false ∙ a.flag_count }
             at false = a
 
     -- a command of ACCESS in page x, which is not ignored
-    agree_command : Sound m → ignores_page m x.0 ≡ false → (k : AccessCommand) → Agrees (step m (command_event x.0 k)) (commanded k s x).arbiter o
+    agree_command : Sound m → ignores_page m x.0 ≡ false → (k : Option AccessCommand) → Agrees (step m (command_event x.0 k)) (commanded k s x).arbiter o
     unfolding clear_seized
-    agree_command d n Nothing = a
-    agree_command d n RequestUse = rw n agree_request
-    agree_command d n ActiveLocality = rw n agree_release
-    agree_command d n Seize = rw n (agree_seize d)
-    agree_command d n BeenSeized = rw n (unmarked x.0 false)
+    agree_command d n None = a
+    agree_command d n (Some RequestUse) = rw n agree_request
+    agree_command d n (Some ActiveLocality) = rw n agree_release
+    agree_command d n (Some Seize) = rw n (agree_seize d)
+    agree_command d n (Some BeenSeized) = rw n (unmarked x.0 false)
 
     pub agree_access : Sound m → ignores_page m x.0 ≡ false → (v : ℕ) → Agrees (step m (access_event x.0 v)) (write_access s x v).arbiter o
     unfolding write_access
@@ -179,17 +178,17 @@ module _ {m : Model} {s : Arbiter} {o : Bool} (a : Agrees m s o) where
       now_open : Agrees (started m) (rule.hash_start s) true
       now_open = record { active = refl; flags = a.flags; sequence_open = refl; flag_count = a.flag_count }
 
-      by : (w : Owner) → start_counts w ≡ true → Agrees (start (holder w) m) (rule.hash_start s) true
-      by Nobody e = now_open
-      by (Held y) e = rw e now_open
+      by : (w : Option Locality) → start_counts w ≡ true → Agrees (start (holder w) m) (rule.hash_start s) true
+      by None e = now_open
+      by (Some y) e = rw e now_open
 
   -- one that does not count is nothing to the model
   pub late_start_lem : start_counts s.active ≡ false → step m hash_start ≡ m
   late_start_lem c = subst (λ (h : Holder). start h m ≡ m) (sym a.active) (by s.active c)
     where
-      by : (w : Owner) → start_counts w ≡ false → start (holder w) m ≡ m
-      by Nobody e = absurd (true≢false e)
-      by (Held y) e = rw e refl
+      by : (w : Option Locality) → start_counts w ≡ false → start (holder w) m ≡ m
+      by None e = absurd (true≢false e)
+      by (Some y) e = rw e refl
 
 -- the end of an open sequence closes it and hands the device over
 pub agree_end : {m : Model} {s : Arbiter} → Agrees m s true → Agrees (step m hash_end) (rule.handover s).arbiter false

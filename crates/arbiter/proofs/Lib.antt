@@ -1,4 +1,3 @@
-pub mod RuleLaws
 pub mod WaitingMask
 pub mod Agreement
 pub mod Cases

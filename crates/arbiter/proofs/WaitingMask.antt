@@ -7,13 +7,13 @@ use Prim.Native.Nat.{ℕ, zero, suc, ◌+◌, ◌-◌, ◌/◌, ◌≤◌}
 use native.Mathlib.Nat.{le_refl, le_trans}
 use native.Mathlib.Omega.{arith}
 use lib.Dec.{eqb}
-use lib.Count.{count_leading_zeros, leading_of_zero, leading_le}
+use lib.Count.{count_leading_zeros, leading_le}
 use lib.ListN.{get_or, length}
 use borrow.Author.Tests.{eqb-true}
 use Rattle.bits.specs.Bits.{flag_at}
 use Rattle.bits.proofs.TestLaws.{both_true}
-use Rattle.arbiter.specs.declared.Owner.{Owner}
-use Rattle.arbiter.specs.declared.Owner.TheVariants.{Nobody, Held}
+use Rattle.arbiter.specs.declared.Locality.{Locality}
+use Rattle.std.specs.Prelude.{Option, Some, None}
 use Rattle.arbiter.specs.State.{locality}
 use Rattle.arbiter.specs.Rules.{next_owner}
 
@@ -35,17 +35,17 @@ of_each (suc n) f t (false ∷ l) e = of_each n (after false f) (both_true (each
 
 -- ---- an owner as a number, which a test can compare: 0 for nobody, else one more than the locality
 
-abbrev place : Owner → ℕ
-place Nobody = 0
-place (Held x) = suc x.0
+abbrev place : Option Locality → ℕ
+place None = 0
+place (Some x) = suc x.0
 
-abbrev owner : ℕ → Owner
-owner zero = Nobody
-owner (suc x) = Held (locality x)
+abbrev owner : ℕ → Option Locality
+owner zero = None
+owner (suc x) = Some (locality x)
 
-owner_place : (o : Owner) → owner (place o) ≡ o
-owner_place Nobody = refl
-owner_place (Held x) = refl
+owner_place : (o : Option Locality) → owner (place o) ≡ o
+owner_place None = refl
+owner_place (Some x) = refl
 
 -- ---- the mask, and its leading zeros
 
@@ -61,7 +61,7 @@ zeros_and_place w =
     (get_or w 0 false ∷ get_or w 1 false ∷ get_or w 2 false ∷ get_or w 3 false ∷ get_or w 4 false ∷ []) refl)
 
 -- at most seven where the mask is not 0; n, not 7, so that a wrong number in the code is judged by the owner that it gives
-pub zeros_bounded : (m n : ℕ) → (m ≡ 0 → ⊥) → 7 ≤ n → count_leading_zeros 8 m ≤ n
+zeros_bounded : (m n : ℕ) → (m ≡ 0 → ⊥) → 7 ≤ n → count_leading_zeros 8 m ≤ n
 unfolding count_leading_zeros
 zeros_bounded zero n p l = absurd (p refl)
 zeros_bounded (suc m) n p l = le_trans (leading_le 7 (suc m / 2)) l
@@ -77,13 +77,7 @@ module _ (w : List Bool) (f0 f1 f2 f3 f4 : ℕ)
   told : count_leading_zeros 8 m + place (next_owner w) ≡ 8
   told = rw (is0, is1, is2, is3, is4) (zeros_and_place w)
 
-  pub nobody_waits : m ≡ 0 → Nobody ≡ next_owner w
-  nobody_waits p = ap owner none ∙ owner_place (next_owner w)
-    where
-      none : 0 ≡ place (next_owner w)
-      none = omega (arith, rw (p, leading_of_zero) at told)
-
-  pub highest_waits : (m ≡ 0 → ⊥) → Held (locality (7 - count_leading_zeros 8 m)) ≡ next_owner w
+  pub highest_waits : (m ≡ 0 → ⊥) → Some (locality (7 - count_leading_zeros 8 m)) ≡ next_owner w
   highest_waits p = ap owner some ∙ owner_place (next_owner w)
     where
       some : suc (7 - count_leading_zeros 8 m) ≡ place (next_owner w)

@@ -1,8 +1,6 @@
 -- The arbiter state (document 01, 'What the device record carries'): its fresh value, its parts set, and what is asked of it. Assumes nothing.
-use Rattle.std.specs.Prelude.{ℕ, Bool, false, ◌||◌, List, get_or, set, replicate, eqb}
+use Rattle.std.specs.Prelude.{ℕ, Bool, false, ◌||◌, List, get_or, set, replicate, eqb, Option, Some, None}
 use Rattle.arbiter.specs.declared.Locality.{Locality}
-use Rattle.arbiter.specs.declared.Owner.{Owner}
-use Rattle.arbiter.specs.declared.Owner.TheVariants.{Nobody, Held}
 use Rattle.arbiter.specs.declared.Arbiter.{Arbiter}
 
 -- "none, or 0 to 4"
@@ -14,10 +12,10 @@ locality x = record { 0 = x }
 
 -- "none active, nobody waits or was seized"
 abbrev pub fresh_arbiter : Arbiter
-fresh_arbiter = record { active = Nobody; waiting = replicate 5 false; seized = replicate 5 false }
+fresh_arbiter = record { active = None; waiting = replicate 5 false; seized = replicate 5 false }
 
 -- one part of the state set
-abbrev pub with_active : Arbiter → Owner → Arbiter
+abbrev pub with_active : Arbiter → Option Locality → Arbiter
 with_active s o = record { active = o; waiting = s.waiting; seized = s.seized }
 
 abbrev pub with_waiting : Arbiter → ℕ → Bool → Arbiter
@@ -35,6 +33,6 @@ abbrev pub any_waits : List Bool → Bool
 any_waits w = get_or w 0 false || get_or w 1 false || get_or w 2 false || get_or w 3 false || get_or w 4 false
 
 -- is x the active locality
-abbrev pub holds : Owner → Locality → Bool
-holds Nobody x = false
-holds (Held y) x = eqb y.0 x.0
+abbrev pub holds : Option Locality → Locality → Bool
+holds None x = false
+holds (Some y) x = eqb y.0 x.0

@@ -1,58 +1,49 @@
 // The rules of a write to ACCESS, on the arbiter state.
-ghost use Rattle.std.specs.Prelude.{◌≡◌, ◌<◌};
-ghost use Rattle.arbiter.specs.State.{localities, any_waits, holds as holds_spec};
+ghost use Rattle.std.specs.Prelude.{◌≡◌};
+ghost use Rattle.arbiter.specs.State.{any_waits, holds as holds_spec};
 ghost use Rattle.arbiter.specs.Rules.{keeps_command, access_command, request as request_spec, release as release_spec, seize as seize_spec, clear_seized, write_access};
 
 use crate::transfer::{handover, serve};
-use crate::{Arbiter, Change, Locality, Owner, with_active, with_seized, with_waiting};
-use bits::bit;
+use crate::{Arbiter, Change, Locality, Page, with_active, with_seized, with_waiting};
+use bits::is_set;
 use reg_layout::access::{ACTIVE_LOCALITY, BEEN_SEIZED, REQUEST_USE, SEIZE};
 
-// The counted bit of a byte written to ACCESS that stands alone.
-#[derive(Clone, Copy)]
+// The counted bit of a byte written to ACCESS, where one stands alone.
+#[derive(Clone, Copy, PartialEq, Eq, Debug)]
 pub enum AccessCommand {
-    Nothing,
     RequestUse,
     ActiveLocality,
     Seize,
     BeenSeized,
 }
 
-pub fn access_command(byte: u8) -> AccessCommand
+#[tactic(auto, unfolding(crate::specs::Rules::access_command))]
+pub fn access_command(byte: u8) -> Option<AccessCommand>
     ensures { result ≡ access_command byte }
 {
-    let active = bit(byte, ACTIVE_LOCALITY);
-    let been = bit(byte, BEEN_SEIZED);
-    let seize = bit(byte, SEIZE);
-    let request = bit(byte, REQUEST_USE);
-    if active + been + seize + request != 1 {
-        return AccessCommand::Nothing;
+    let active = is_set(byte, ACTIVE_LOCALITY);
+    let been = is_set(byte, BEEN_SEIZED);
+    let seize = is_set(byte, SEIZE);
+    let request = is_set(byte, REQUEST_USE);
+    match (active, been, seize, request) {
+        (true, false, false, false) => Some(AccessCommand::ActiveLocality),
+        (false, true, false, false) => Some(AccessCommand::BeenSeized),
+        (false, false, true, false) => Some(AccessCommand::Seize),
+        (false, false, false, true) => Some(AccessCommand::RequestUse),
+        _ => None,
     }
-    if request == 1 {
-        return AccessCommand::RequestUse;
-    }
-    if active == 1 {
-        return AccessCommand::ActiveLocality;
-    }
-    if seize == 1 {
-        return AccessCommand::Seize;
-    }
-    AccessCommand::BeenSeized
 }
 
-pub fn holds(o: Owner, x: Locality) -> bool
+pub fn holds(o: Option<Locality>, x: Locality) -> bool
     ensures { result ≡ holds_spec o x }
 {
-    match o {
-        Owner::Nobody => false,
-        Owner::Held(y) => y.0 == x.0,
-    }
+    o == Some(x)
 }
 
 pub fn any_waits(w: [bool; 5]) -> bool
     ensures { result ≡ any_waits w }
 {
-    w[0] | w[1] | w[2] | w[3] | w[4]
+    w.contains(&true)
 }
 
 // A change that aborts no command and serves nobody.
@@ -66,76 +57,63 @@ fn keeps_command(s: Arbiter) -> Change
     }
 }
 
-pub fn request(s: Arbiter, x: Locality) -> Change
-    requires { x.0 < localities }
-    ensures { result ≡ request_spec s x }
+#[tactic(auto, unfolding(crate::specs::Rules::request))]
+pub fn request(s: Arbiter, x: Page) -> Change
+    ensures { result ≡ request_spec s x.locality }
 {
-    let owner = s.active;
-    match owner {
-        Owner::Nobody => keeps_command(with_active(s, Owner::Held(x))),
-        Owner::Held(y) => {
-            if y.0 == x.0 {
-                return keeps_command(s);
-            }
-            keeps_command(with_waiting(s, x, true))
-        }
+    match s.active {
+        None => keeps_command(with_active(s, Some(x.locality))),
+        Some(y) if y == x.locality => keeps_command(s),
+        Some(_) => keeps_command(with_waiting(s, x, true)),
     }
 }
 
 // By the active locality; by one that waits it is a withdrawal.
-pub fn release(s: Arbiter, x: Locality) -> Change
-    requires { x.0 < localities }
-    ensures { result ≡ release_spec s x }
+#[tactic(auto, unfolding(crate::specs::Rules::release))]
+pub fn release(s: Arbiter, x: Page) -> Change
+    ensures { result ≡ release_spec s x.locality }
 {
-    let owner = s.active;
-    if holds(owner, x) {
+    if holds(s.active, x.locality) {
         return handover(s);
     }
-    let i = x.0 as usize;
-    if s.waiting[i] {
+    if s.waiting[x.index()] {
         return keeps_command(with_waiting(s, x, false));
     }
     keeps_command(s)
 }
 
-pub fn seize(s: Arbiter, x: Locality) -> Change
-    requires { x.0 < localities }
-    ensures { result ≡ seize_spec s x }
+#[tactic(auto, unfolding(crate::specs::Rules::seize, crate::specs::Rules::request))]
+pub fn seize(s: Arbiter, x: Page) -> Change
+    ensures { result ≡ seize_spec s x.locality }
 {
-    let owner = s.active;
-    match owner {
-        Owner::Nobody => request(s, x),
-        Owner::Held(y) => {
-            if x.0 <= y.0 {
-                return keeps_command(s);
-            }
-            Change {
-                arbiter: with_seized(serve(s, x), y, true),
-                abort: true,
-                locality_change: false,
-            }
-        }
+    match s.active {
+        None => request(s, x),
+        Some(y) if y.0 < x.locality.0 => Change {
+            arbiter: with_seized(serve(s, x), Page { locality: y }, true),
+            abort: true,
+            locality_change: false,
+        },
+        Some(_) => keeps_command(s),
     }
 }
 
-pub fn clear_seized(s: Arbiter, x: Locality) -> Change
-    requires { x.0 < localities }
-    ensures { result ≡ clear_seized s x }
+#[tactic(auto, unfolding(crate::specs::Rules::clear_seized))]
+pub fn clear_seized(s: Arbiter, x: Page) -> Change
+    ensures { result ≡ clear_seized s x.locality }
 {
     keeps_command(with_seized(s, x, false))
 }
 
 // A byte written to ACCESS of page x.
-pub fn write_access(s: Arbiter, x: Locality, byte: u8) -> Change
-    requires { x.0 < localities }
-    ensures { result ≡ write_access s x byte }
+#[tactic(auto, unfolding(crate::specs::Rules::write_access))]
+pub fn write_access(s: Arbiter, x: Page, byte: u8) -> Change
+    ensures { result ≡ write_access s x.locality byte }
 {
-    let command = access_command(byte);
-    match command {
-        AccessCommand::Nothing => keeps_command(s),
-        AccessCommand::RequestUse => request(s, x),
-        AccessCommand::ActiveLocality => release(s, x),
-        AccessCommand::Seize => seize(s, x),
-        AccessCommand::BeenSeized => clear_seized(s, x),
+    match access_command(byte) {
+        None => keeps_command(s),
+        Some(AccessCommand::RequestUse) => request(s, x),
+        Some(AccessCommand::ActiveLocality) => release(s, x),
+        Some(AccessCommand::Seize) => seize(s, x),
+        Some(AccessCommand::BeenSeized) => clear_seized(s, x),
     }
 }

@@ -11,26 +11,35 @@ pub mod transfer;
 pub const LOCALITIES: u8 = 5;
 
 // A locality number; a page's is at most 4, and a stored one may be anything.
-#[derive(Clone, Copy)]
+#[derive(Clone, Copy, PartialEq, Eq, Debug)]
 pub struct Locality(pub u8);
 
-#[derive(Clone, Copy)]
-pub enum Owner {
-    Nobody,
-    Held(Locality),
+// A locality that has a page.
+#[derive(Clone, Copy, PartialEq, Eq, Debug)]
+pub struct Page {
+    pub locality: Locality,
+    ghost in_range: { locality.0 < localities },
 }
 
-// The active locality, which localities wait, and which were seized.
-#[derive(Clone, Copy)]
+impl Page {
+    pub fn index(self) -> usize
+        ensures { result ≡ self.locality.0 }
+    {
+        usize::from(self.locality.0)
+    }
+}
+
+// The active locality, if the device is not free, which localities wait, and which were seized.
+#[derive(Clone, Copy, PartialEq, Eq, Debug)]
 pub struct Arbiter {
-    pub active: Owner,
+    pub active: Option<Locality>,
     pub waiting: [bool; 5],
     pub seized: [bool; 5],
 }
 
 // What a rule leaves, and what follows from it: the owner's command is aborted, so both FIFOs are cleared and the phase is Idle (abort); a
 // handover served a waiting locality, so localityChange is set in INT_STATUS (locality_change).
-#[derive(Clone, Copy)]
+#[derive(Clone, Copy, PartialEq, Eq, Debug)]
 pub struct Change {
     pub arbiter: Arbiter,
     pub abort: bool,
@@ -42,40 +51,28 @@ pub fn fresh_arbiter() -> Arbiter
     ensures { result ≡ fresh_arbiter }
 {
     Arbiter {
-        active: Owner::Nobody,
+        active: None,
         waiting: [false; 5],
         seized: [false; 5],
     }
 }
 
-pub fn with_active(s: Arbiter, o: Owner) -> Arbiter
+pub fn with_active(s: Arbiter, o: Option<Locality>) -> Arbiter
     ensures { result ≡ with_active s o }
 {
-    let waiting = s.waiting;
-    let seized = s.seized;
-    Arbiter {
-        active: o,
-        waiting,
-        seized,
-    }
+    Arbiter { active: o, ..s }
 }
 
-pub fn with_waiting(s: Arbiter, x: Locality, b: bool) -> Arbiter
-    requires { x.0 < localities }
-    ensures { result ≡ with_waiting s x.0 b }
+pub fn with_waiting(mut s: Arbiter, x: Page, b: bool) -> Arbiter
+    ensures { result ≡ with_waiting s x.locality.0 b }
 {
-    let mut t = s;
-    let i = x.0 as usize;
-    t.waiting[i] = b;
-    t
+    s.waiting[x.index()] = b;
+    s
 }
 
-pub fn with_seized(s: Arbiter, x: Locality, b: bool) -> Arbiter
-    requires { x.0 < localities }
-    ensures { result ≡ with_seized s x.0 b }
+pub fn with_seized(mut s: Arbiter, x: Page, b: bool) -> Arbiter
+    ensures { result ≡ with_seized s x.locality.0 b }
 {
-    let mut t = s;
-    let i = x.0 as usize;
-    t.seized[i] = b;
-    t
+    s.seized[x.index()] = b;
+    s
 }

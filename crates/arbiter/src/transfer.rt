@@ -1,14 +1,14 @@
 // How the device passes on: the next owner, the handover, and what a hash start does to ownership.
-ghost use Rattle.std.specs.Prelude.{◌≡◌, ◌<◌};
-ghost use Rattle.arbiter.specs.State.{localities};
+ghost use Rattle.std.specs.Prelude.{◌≡◌};
 ghost use Rattle.arbiter.specs.Rules.{next_owner, serve as serve_spec, handover as handover_spec, start_counts, hash_start};
 
-use crate::{Arbiter, Change, Locality, Owner, with_active};
+use crate::{Arbiter, Change, Locality, Page, with_active, with_waiting};
 use bits::flag_at;
 use reg_layout::HASH_LOCALITY;
 
 // The highest locality that waits, or nobody. Flag k stands at bit k of the mask, whose highest set bit is number 7 less the zeros above it.
-pub fn next_owner(waiting: [bool; 5]) -> Owner
+#[tactic(auto, using(crate::proofs::WaitingMask::highest_waits))]
+pub fn next_owner(waiting: [bool; 5]) -> Option<Locality>
     ensures { result ≡ next_owner waiting }
 {
     let mask = flag_at(waiting[0], 0)
@@ -17,59 +17,46 @@ pub fn next_owner(waiting: [bool; 5]) -> Owner
         + flag_at(waiting[3], 3)
         + flag_at(waiting[4], 4);
     if mask == 0 {
-        return Owner::Nobody;
+        return None;
     }
-    let zeros = u8::leading_zeros(mask);
-    Owner::Held(Locality((7 - zeros) as u8))
+    let zeros = mask.leading_zeros();
+    Some(Locality((7 - zeros) as u8))
 }
 
-pub fn serve(s: Arbiter, y: Locality) -> Arbiter
-    requires { y.0 < localities }
-    ensures { result ≡ serve_spec s y }
+pub fn serve(s: Arbiter, y: Page) -> Arbiter
+    ensures { result ≡ serve_spec s y.locality }
 {
-    let i = y.0 as usize;
-    let mut waiting = s.waiting;
-    waiting[i] = false;
-    let seized = s.seized;
-    Arbiter {
-        active: Owner::Held(y),
-        waiting,
-        seized,
-    }
+    with_active(with_waiting(s, y, false), Some(y.locality))
 }
 
 // The one handover, of a release and of a hash end: the highest waiting locality is served, or the device is free.
+#[tactic(auto, unfolding(crate::specs::Rules::handover))]
 pub fn handover(s: Arbiter) -> Change
     ensures { result ≡ handover_spec s }
 {
-    let waiting = s.waiting;
-    let next = next_owner(waiting);
-    match next {
-        Owner::Nobody => Change {
-            arbiter: with_active(s, next),
+    match next_owner(s.waiting) {
+        None => Change {
+            arbiter: with_active(s, None),
             abort: true,
             locality_change: false,
         },
-        Owner::Held(y) => Change {
-            arbiter: serve(s, y),
+        Some(y) => Change {
+            arbiter: serve(s, Page { locality: y }),
             abort: true,
             locality_change: true,
         },
     }
 }
 
-pub fn start_counts(o: Owner) -> bool
+pub fn start_counts(o: Option<Locality>) -> bool
     ensures { result ≡ start_counts o }
 {
-    match o {
-        Owner::Nobody => true,
-        Owner::Held(y) => y.0 == HASH_LOCALITY,
-    }
+    matches!(o, None | Some(Locality(HASH_LOCALITY)))
 }
 
 // A start that counts.
 pub fn hash_start(s: Arbiter) -> Arbiter
     ensures { result ≡ hash_start s }
 {
-    with_active(s, Owner::Held(Locality(HASH_LOCALITY)))
+    with_active(s, Some(Locality(HASH_LOCALITY)))
 }

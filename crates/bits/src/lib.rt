@@ -4,7 +4,7 @@
 ghost use Rattle.std.specs.Prelude.{◌≡◌, ◌<◌, ◌≤◌, ◌^◌};
 ghost use Rattle.bits.specs.Bits.{bit as bit_spec, is_set, flag_at};
 
-// Bit k of v, as a number, so that set bits can be counted.
+// Bit k of v, as a number, so that set bits can be counted. That k is below 8 stays a `requires`: a caller's k is a constant, as in the paper.
 pub fn bit(v: u8, k: u8) -> u8
     requires { k < 8 }
     ensures { (result ≡ bit_spec k v) × (result ≤ 1) }
@@ -24,8 +24,5 @@ pub fn flag_at(b: bool, k: u8) -> u8
     requires { k < 8 }
     ensures { (result ≡ flag_at k b) × (result ≤ 2 ^ k) }
 {
-    if b {
-        return 1 << k;
-    }
-    0
+    u8::from(b) << k
 }

@@ -1,17 +1,16 @@
 // An accepted read (document 01, 'The pages'): what each register gives, and what the read does to the phase.
 #![tactic(auto)]
 
-ghost use Rattle.std.specs.Prelude.{◌≡◌, ◌<◌, get_or};
-ghost use Rattle.arbiter.specs.State.{localities};
+ghost use Rattle.std.specs.Prelude.{◌≡◌, get_or};
 ghost use Rattle.bus_read.specs.Reading.{read_sts, unmoved as unmoved_spec, read_data_fifo, register_read};
 
-use arbiter::Locality;
+use arbiter::Page;
 use record::{Control, Phase};
 use reg_access::access_byte;
 use reg_fifo::{after_read, fifo_byte};
 use reg_interrupts::{capability_byte, enable_byte, status_byte};
 use reg_map::Register;
-use reg_sts_read::size::expects;
+use reg_sts_read::size::Sizes;
 use reg_sts_read::sts::sts_byte;
 
 // What a read of a register gives, and the phase that it leaves.
@@ -22,11 +21,11 @@ pub struct RegisterRead {
 }
 
 // Of the active locality or not.
-fn read_sts(active: bool, p: Phase, size: u32, c: u16, i: u8) -> u8
-    ensures { result ≡ read_sts active p size c i }
+fn read_sts(active: bool, p: Phase, sizes: Sizes, i: u8) -> u8
+    ensures { result ≡ read_sts active p sizes.declared sizes.fifo i }
 {
     if active {
-        return sts_byte(p, expects(p, size, c), c, i);
+        return sts_byte(p, sizes.expects(p), sizes.fifo, i);
     }
     0xff
 }
@@ -46,11 +45,7 @@ fn read_data_fifo(active: bool, p: Phase, read_fifo: &[u8]) -> RegisterRead
 fn identity_byte(identity: [u8; 5], i: u8) -> u8
     ensures { result ≡ get_or identity i 0 }
 {
-    let j = i as usize;
-    if j < 5 {
-        return identity[j];
-    }
-    0
+    identity.get(usize::from(i)).copied().unwrap_or(0)
 }
 
 // The phase stays.
@@ -61,29 +56,26 @@ fn unmoved(byte: u8, phase: Phase) -> RegisterRead
 }
 
 // Only a FIFO read moves the phase on; `active` is whether x is the active locality.
+#[tactic(auto, unfolding(crate::specs::Reading::register_read))]
 pub fn register_read(
     g: Register,
-    x: Locality,
+    x: Page,
     active: bool,
     control: Control,
     phase: Phase,
     identity: [u8; 5],
-    size: u32,
-    c: u16,
+    sizes: Sizes,
     read_fifo: &[u8],
 ) -> RegisterRead
-    requires { x.0 < localities }
-    ensures { result ≡ register_read g x active control phase identity size c read_fifo.now }
+    ensures { result ≡ register_read g x.locality active control phase identity sizes.declared sizes.fifo read_fifo.now }
 {
-    let arbiter = control.arbiter;
-    let interrupts = control.interrupts;
     match g {
-        Register::Access => unmoved(access_byte(arbiter, control.established, x), phase),
-        Register::IntEnable(i) => unmoved(enable_byte(interrupts, i), phase),
+        Register::Access => unmoved(access_byte(control.arbiter, control.established, x), phase),
+        Register::IntEnable(i) => unmoved(enable_byte(control.interrupts, i), phase),
         Register::IntVector => unmoved(0, phase),
-        Register::IntStatus(i) => unmoved(status_byte(interrupts, i), phase),
+        Register::IntStatus(i) => unmoved(status_byte(control.interrupts, i), phase),
         Register::IntfCapability(i) => unmoved(capability_byte(i), phase),
-        Register::Sts(i) => unmoved(read_sts(active, phase, size, c, i), phase),
+        Register::Sts(i) => unmoved(read_sts(active, phase, sizes, i), phase),
         Register::DataFifo => read_data_fifo(active, phase, read_fifo),
         Register::Identity(i) => unmoved(identity_byte(identity, i), phase),
         Register::Reserved => unmoved(0xff, phase),

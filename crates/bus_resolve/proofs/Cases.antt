@@ -7,7 +7,8 @@ use borrow.Author.Tests.{eqb-true, eqb-false}
 use Rattle.reg_layout.specs.Offsets.{in_four, page_of, place_of, access, hash_locality, hash_start, hash_end, hash_data}
 use Rattle.arbiter.specs.State.{holds}
 use Rattle.arbiter.specs.Rules.{start_counts}
-use Rattle.arbiter.specs.declared.Owner.{Owner}
+use Rattle.arbiter.specs.declared.Locality.{Locality}
+use Rattle.std.specs.Prelude.{Option}
 use Rattle.reg_map.specs.Map.{register_for}
 use Rattle.bus_resolve.specs.declared.WriteKind.{WriteKind}
 use Rattle.bus_resolve.specs.declared.WriteKind.TheVariants.{HashStart, HashEnd, HashData, Ignored, Ordinary}
@@ -22,7 +23,7 @@ pub record Unhashed (o : ℕ) : Type 0 where
 abbrev pub hash_page : ℕ → Bool → Bool
 hash_page o sequence = sequence && eqb (page_of o) hash_locality
 
-pub data Resolved (o : ℕ) (sequence : Bool) (owner : Owner) : WriteKind → Type 0 where
+pub data Resolved (o : ℕ) (sequence : Bool) (owner : Option Locality) : WriteKind → Type 0 where
   starts : in_four hash_start o ≡ true → start_counts owner ≡ true → Resolved o sequence owner HashStart
   -- a start that does not count
   late_start : in_four hash_start o ≡ true → start_counts owner ≡ false → Resolved o sequence owner Ignored
@@ -38,7 +39,7 @@ pub data Resolved (o : ℕ) (sequence : Bool) (owner : Owner) : WriteKind → Ty
   -- a register of another's
   misses : Unhashed o → hash_page o sequence ≡ false → (place_of o ≡ access → ⊥) → holds owner (page_at o) ≡ false → Resolved o sequence owner Ignored
 
-module _ (o : ℕ) (sequence : Bool) (owner : Owner) where
+module _ (o : ℕ) (sequence : Bool) (owner : Option Locality) where
   usual : Unhashed o → hash_page o sequence ≡ false → (a h : Bool) → eqb (place_of o) access ≡ a → holds owner (page_at o) ≡ h
       → Resolved o sequence owner (cond (a || h) (Ordinary (register_for o)) Ignored)
   usual u p true h i j = accesses u p (eqb-true (place_of o) access i)

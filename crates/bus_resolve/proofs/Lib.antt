@@ -1,2 +1,1 @@
-pub mod ResolveLaws
 pub mod Cases

@@ -6,15 +6,15 @@ ghost use Rattle.reg_layout.specs.Offsets.{in_four, page_of, hash_start};
 ghost use Rattle.bus_resolve.specs.declared.WriteKind.TheVariants.{Ignored};
 ghost use Rattle.bus_resolve.specs.Resolve.{page_at, resolve as resolve_spec};
 
+use arbiter::Locality;
 use arbiter::access::holds;
 use arbiter::transfer::start_counts;
-use arbiter::{Locality, Owner};
 use reg_layout::{ACCESS, HASH_DATA, HASH_END, HASH_LOCALITY, HASH_START, PAGE};
 use reg_map::{Register, register_at};
 
 // A hash start that counts; the end of an open sequence; a byte for one; a write that nothing heeds; one that reaches a register: ACCESS of
 // any page, any other register of the active locality's page alone.
-#[derive(Clone, Copy)]
+#[derive(Clone, Copy, PartialEq, Eq, Debug)]
 pub enum WriteKind {
     HashStart,
     HashEnd,
@@ -30,38 +30,36 @@ pub fn page_at(offset: u16) -> Locality
     Locality((offset / PAGE) as u8)
 }
 
-fn in_four(a: u16, o: u16) -> bool
+// The four offsets from a on.
+fn in_four(a: u16, offset: u16) -> bool
     requires { a ≤ hash_start }
-    ensures { result ≡ in_four a o }
+    ensures { result ≡ in_four a offset }
 {
-    (a <= o) & (o <= a + 3)
+    (a..=a + 3).contains(&offset)
 }
 
-fn kind_if(b: bool, k: WriteKind) -> WriteKind
-    ensures { result ≡ cond b k Ignored }
+// A write that is `kind` where b, and is ignored else.
+fn kind_if(b: bool, kind: WriteKind) -> WriteKind
+    ensures { result ≡ cond b kind Ignored }
 {
-    if b {
-        return k;
-    }
-    WriteKind::Ignored
+    if b { kind } else { WriteKind::Ignored }
 }
 
-pub fn resolve(offset: u16, sequence: bool, owner: Owner) -> WriteKind
+#[tactic(auto, unfolding(crate::specs::Resolve::resolve))]
+pub fn resolve(offset: u16, sequence: bool, owner: Option<Locality>) -> WriteKind
     ensures { result ≡ resolve_spec offset sequence owner }
 {
-    if in_four(HASH_START, offset) {
-        return kind_if(start_counts(owner), WriteKind::HashStart);
-    }
-    if in_four(HASH_END, offset) {
-        return kind_if(sequence, WriteKind::HashEnd);
-    }
     let x = page_at(offset);
-    if sequence & (x.0 == HASH_LOCALITY) {
-        return kind_if(in_four(HASH_DATA, offset), WriteKind::HashData);
-    }
     let at = offset % PAGE;
-    if (at == ACCESS) | holds(owner, x) {
-        return WriteKind::Ordinary(register_at(at));
+    if in_four(HASH_START, offset) {
+        kind_if(start_counts(owner), WriteKind::HashStart)
+    } else if in_four(HASH_END, offset) {
+        kind_if(sequence, WriteKind::HashEnd)
+    } else if sequence & (x.0 == HASH_LOCALITY) {
+        kind_if(in_four(HASH_DATA, offset), WriteKind::HashData)
+    } else if (at == ACCESS) | holds(owner, x) {
+        WriteKind::Ordinary(register_at(at))
+    } else {
+        WriteKind::Ignored
     }
-    WriteKind::Ignored
 }

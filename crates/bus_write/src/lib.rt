@@ -1,19 +1,19 @@
 // An accepted write (document 01, 'The pages' to 'The launch hash'): what it does to control, phase and FIFOs.
 #![tactic(auto)]
 
-ghost use Rattle.std.specs.Prelude.{◌≡◌, ◌<◌};
-ghost use Rattle.arbiter.specs.State.{localities};
+ghost use Rattle.std.specs.Prelude.{◌≡◌};
 ghost use Rattle.bus_write.specs.Effect.{ignored as ignored_spec, aborted as aborted_spec, changed_control, apply_change, apply_command, apply_interrupts};
 ghost use Rattle.bus_write.specs.Writing.{start_effect, register_write, write_effect};
 
 use arbiter::access::write_access;
 use arbiter::transfer::{handover, hash_start};
-use arbiter::{Change, Locality};
+use arbiter::{Change, Page};
 use bus_resolve::WriteKind;
-use record::{Causes, Control, Interrupts, Phase, with_interrupts};
+use record::{Causes, Control, Interrupts, Phase};
 use reg_fifo::FifoAction;
 use reg_interrupts::{mark, write_enable, write_status};
 use reg_map::Register;
+use reg_sts_read::size::Sizes;
 use reg_sts_write::Commanded;
 use reg_sts_write::sts::{write_data_fifo, write_sts};
 
@@ -49,24 +49,19 @@ fn aborted(control: Control) -> Effect
 fn changed_control(control: Control, change: Change) -> Control
     ensures { result ≡ changed_control control change }
 {
-    let interrupts = control.interrupts;
-    let arbiter = change.arbiter;
+    let told = Causes {
+        locality_change: change.locality_change,
+        ..Causes::NONE
+    };
     Control {
-        arbiter,
-        interrupts: mark(
-            interrupts,
-            Causes {
-                command_ready: false,
-                locality_change: change.locality_change,
-                data_avail: false,
-            },
-        ),
-        established: control.established,
-        run: control.run,
+        arbiter: change.arbiter,
+        interrupts: mark(control.interrupts, told),
+        ..control
     }
 }
 
 // What a rule of the arbiter leaves.
+#[tactic(auto, unfolding(crate::specs::Effect::apply_change))]
 fn apply_change(control: Control, phase: Phase, change: Change) -> Effect
     ensures { result ≡ apply_change control phase change }
 {
@@ -82,64 +77,57 @@ fn apply_change(control: Control, phase: Phase, change: Change) -> Effect
 }
 
 // What a command bit, a FIFO write or an answer leaves.
+#[tactic(auto, unfolding(crate::specs::Effect::apply_command))]
 pub fn apply_command(control: Control, commanded: Commanded) -> Effect
     ensures { result ≡ apply_command control commanded }
 {
-    let arbiter = control.arbiter;
-    let interrupts = control.interrupts;
-    let causes = commanded.causes;
-    let phase = commanded.phase;
-    let fifos = commanded.fifos;
     Effect {
         control: Control {
-            arbiter,
-            interrupts: mark(interrupts, causes),
-            established: control.established,
+            interrupts: mark(control.interrupts, commanded.causes),
             run: commanded.run,
+            ..control
         },
-        phase,
-        fifos,
+        phase: commanded.phase,
+        fifos: commanded.fifos,
     }
 }
 
 fn start_effect(control: Control) -> Effect
     ensures { result ≡ start_effect control }
 {
-    let arbiter = control.arbiter;
-    let interrupts = control.interrupts;
     aborted(Control {
-        arbiter: hash_start(arbiter),
-        interrupts,
+        arbiter: hash_start(control.arbiter),
         established: true,
-        run: control.run,
+        ..control
     })
 }
 
 // ACCESS of any page, or another register of the active locality's.
+#[tactic(auto, unfolding(crate::specs::Writing::register_write))]
 fn register_write(
     g: Register,
-    x: Locality,
+    x: Page,
     control: Control,
     phase: Phase,
-    size: u32,
-    c: u16,
+    sizes: Sizes,
     v: u8,
 ) -> Effect
-    requires { x.0 < localities }
-    ensures { result ≡ register_write g x control phase size c v }
+    ensures { result ≡ register_write g x.locality control phase sizes.declared sizes.fifo v }
 {
-    let arbiter = control.arbiter;
-    let interrupts = control.interrupts;
     match g {
-        Register::Access => apply_change(control, phase, write_access(arbiter, x, v)),
-        Register::IntEnable(i) => apply_interrupts(control, phase, write_enable(interrupts, i, v)),
-        Register::IntVector => ignored(control, phase),
-        Register::IntStatus(i) => apply_interrupts(control, phase, write_status(interrupts, i, v)),
-        Register::IntfCapability(_i) => ignored(control, phase),
-        Register::Sts(i) => apply_command(control, write_sts(phase, control.run, size, c, i, v)),
-        Register::DataFifo => apply_command(control, write_data_fifo(phase, control.run, size, c)),
-        Register::Identity(_i) => ignored(control, phase),
-        Register::Reserved => ignored(control, phase),
+        Register::Access => apply_change(control, phase, write_access(control.arbiter, x, v)),
+        Register::IntEnable(i) => {
+            apply_interrupts(control, phase, write_enable(control.interrupts, i, v))
+        }
+        Register::IntStatus(i) => {
+            apply_interrupts(control, phase, write_status(control.interrupts, i, v))
+        }
+        Register::Sts(i) => apply_command(control, write_sts(phase, control.run, sizes, i, v)),
+        Register::DataFifo => apply_command(control, write_data_fifo(phase, control.run, sizes)),
+        Register::IntVector
+        | Register::IntfCapability(_)
+        | Register::Identity(_)
+        | Register::Reserved => ignored(control, phase),
     }
 }
 
@@ -148,30 +136,30 @@ fn apply_interrupts(control: Control, phase: Phase, interrupts: Interrupts) -> E
     ensures { result ≡ apply_interrupts control phase interrupts }
 {
     Effect {
-        control: with_interrupts(control, interrupts),
+        control: Control {
+            interrupts,
+            ..control
+        },
         phase,
         fifos: FifoAction::Keep,
     }
 }
 
+#[tactic(auto, unfolding(crate::specs::Writing::write_effect))]
 pub fn write_effect(
     kind: WriteKind,
-    x: Locality,
+    x: Page,
     control: Control,
     phase: Phase,
-    size: u32,
-    c: u16,
+    sizes: Sizes,
     v: u8,
 ) -> Effect
-    requires { x.0 < localities }
-    ensures { result ≡ write_effect kind x control phase size c v }
+    ensures { result ≡ write_effect kind x.locality control phase sizes.declared sizes.fifo v }
 {
-    let arbiter = control.arbiter;
     match kind {
         WriteKind::HashStart => start_effect(control),
-        WriteKind::HashEnd => apply_change(control, phase, handover(arbiter)),
-        WriteKind::HashData => ignored(control, phase),
-        WriteKind::Ignored => ignored(control, phase),
-        WriteKind::Ordinary(g) => register_write(g, x, control, phase, size, c, v),
+        WriteKind::HashEnd => apply_change(control, phase, handover(control.arbiter)),
+        WriteKind::HashData | WriteKind::Ignored => ignored(control, phase),
+        WriteKind::Ordinary(g) => register_write(g, x, control, phase, sizes, v),
     }
 }

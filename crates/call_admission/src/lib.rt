@@ -1,7 +1,8 @@
-// The tests of each call, in document 01's order (document 01, 'When the front says no').
+// The tests of each call, in document 01's order (document 01, 'When the front says no'): the first that fails is what the call is refused for.
 #![tactic(auto)]
 
 ghost use Rattle.std.specs.Prelude.{◌≡◌};
+ghost use Rattle.std.specs.Result.{result_err};
 ghost use Rattle.record_shape.specs.Shape.{view_of};
 ghost use Rattle.call_admission.specs.Refusals.{lent_refusal, bus_refusal, executes as executes_spec, answer_refusal, pcr_refusal};
 
@@ -9,82 +10,79 @@ use pcr::{PCRS, PcrIndex};
 use record::limits::{FIFO_GREATEST, HEADER};
 use record::{Device, Phase};
 use record_shape::{Lengths, ShapeView, in_shape, lengths_allowed, view_of};
+use refusal::Refusal;
 use reg_layout::LAST_OFFSET;
 
 // 2, 6.
-pub fn lent_refusal(v: ShapeView, l: Lengths) -> u8
-    ensures { result ≡ lent_refusal v l }
+#[tactic(auto, using(crate::proofs::RefusalLaws::allowed_fits), unfolding(crate::specs::Refusals::lent_refusal))]
+pub fn lent_admission(v: ShapeView, l: Lengths) -> Result<(), Refusal>
+    ensures { result_err result ≡ lent_refusal v l }
 {
     if !lengths_allowed(l) {
-        return refusal::FIFO_LENGTH;
+        return Err(Refusal::FifoLength);
     }
     if !in_shape(v, l.write as u16) {
-        return refusal::SHAPE;
+        return Err(Refusal::Shape);
     }
-    refusal::ACCEPTED
+    Ok(())
 }
 
 // The same, of a whole record.
-pub fn lent_refusal_of(device: Device, l: Lengths) -> u8
-    ensures { result ≡ lent_refusal (view_of device) l }
+pub fn lent_admission_of(device: Device, l: Lengths) -> Result<(), Refusal>
+    ensures { result_err result ≡ lent_refusal (view_of device) l }
 {
-    lent_refusal(view_of(device), l)
+    lent_admission(view_of(device), l)
 }
 
 // 2, 6, 1.
-pub fn bus_refusal(v: ShapeView, l: Lengths, offset: u64) -> u8
-    ensures { result ≡ bus_refusal v l offset }
+#[tactic(auto, unfolding(crate::specs::Refusals::bus_refusal))]
+pub fn bus_admission(v: ShapeView, l: Lengths, offset: u64) -> Result<(), Refusal>
+    ensures { result_err result ≡ bus_refusal v l offset }
 {
-    let n = lent_refusal(v, l);
-    if n != refusal::ACCEPTED {
-        return n;
-    }
+    lent_admission(v, l)?;
     if LAST_OFFSET < offset {
-        return refusal::OFFSET;
+        return Err(Refusal::Offset);
     }
-    refusal::ACCEPTED
+    Ok(())
 }
 
 fn executes(p: Phase) -> bool
     ensures { result ≡ executes_spec p }
 {
-    match p {
-        Phase::Idle => false,
-        Phase::Ready => false,
-        Phase::Reception(_n) => false,
-        Phase::Execution(_n) => true,
-        Phase::Completion(_n, _k) => false,
-    }
+    matches!(p, Phase::Execution(_))
 }
 
 // 2, 6, 3, 4; `current` is the record's run number, `length` the answer's.
-pub fn answer_refusal(v: ShapeView, l: Lengths, current: u32, run: u32, length: usize) -> u8
-    ensures { result ≡ answer_refusal v l current run length }
+#[tactic(auto, unfolding(crate::specs::Refusals::answer_refusal))]
+pub fn answer_admission(
+    v: ShapeView,
+    l: Lengths,
+    current: u32,
+    run: u32,
+    length: usize,
+) -> Result<(), Refusal>
+    ensures { result_err result ≡ answer_refusal v l current run length }
 {
-    let n = lent_refusal(v, l);
-    if n != refusal::ACCEPTED {
-        return n;
-    }
-    let phase = v.phase;
-    if !(executes(phase) & (current == run)) {
-        return refusal::RUN;
+    lent_admission(v, l)?;
+    if !(executes(v.phase) & (current == run)) {
+        return Err(Refusal::Run);
     }
     if (length < HEADER as usize) | (l.write < length) {
-        return refusal::ANSWER_LENGTH;
+        return Err(Refusal::AnswerLength);
     }
-    refusal::ACCEPTED
+    Ok(())
 }
 
 // 6, 5.
-pub fn pcr_refusal(v: ShapeView, index: PcrIndex) -> u8
-    ensures { result ≡ pcr_refusal v index.0 }
+#[tactic(auto, unfolding(crate::specs::Refusals::pcr_refusal))]
+pub fn pcr_admission(v: ShapeView, index: PcrIndex) -> Result<(), Refusal>
+    ensures { result_err result ≡ pcr_refusal v index.0 }
 {
     if !in_shape(v, FIFO_GREATEST) {
-        return refusal::SHAPE;
+        return Err(Refusal::Shape);
     }
-    let i = index.0 as usize;
-    if PCRS <= i {
-        return refusal::QUESTION;
+    if PCRS <= index.0 as usize {
+        return Err(Refusal::Question);
     }
-    refusal::ACCEPTED
+    Ok(())
 }

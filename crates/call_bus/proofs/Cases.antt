@@ -6,14 +6,19 @@ use Prim.Native.Nat.{ℕ, ◌+◌, ◌-◌, ◌%◌, ◌<◌, ◌≤◌}
 use native.Mathlib.Omega.{arith}
 use lib.ListN.{length}
 use lib.Dec.{eqb, leb}
-use borrow.Author.Tests.{eqb-true, eqb-false, eq-eqb, leb-true, leb-false}
-use Rattle.refusal.specs.Refusal.{accepted, hash_length}
+use borrow.Author.Tests.{eqb-true, eqb-false, leb-true, leb-false}
+use Rattle.std.specs.Prelude.{Option, None, Some}
+use Rattle.refusal.specs.Refusal.{accepts as accepted}
+use Rattle.refusal.specs.declared.Refusal.{Refusal}
+use Rattle.refusal.specs.declared.Refusal.TheVariants.{HashLength}
+use Rattle.refusal.proofs.RefusalNumbers.{accepts_true, accepts_false}
 use Rattle.reg_layout.specs.Offsets.{within, in_four, place_of, last_offset, access, int_enable, int_status, sts, data_fifo, hash_start, hash_end, hash_data}
 use Rattle.reg_layout.proofs.Within.{within_then}
 use Rattle.arbiter.specs.State.{holds}
 use Rattle.arbiter.specs.Rules.{start_counts, write_access, handover}
 use Rattle.arbiter.specs.declared.Change.{Change}
-use Rattle.arbiter.specs.declared.Owner.{Owner}
+use Rattle.arbiter.specs.declared.Locality.{Locality}
+use Rattle.std.specs.Prelude.{Option}
 use Rattle.arbiter.proofs.Cases.{handover_aborts}
 use Rattle.pcr.specs.Bank.{launched}
 use Rattle.record.specs.Limits.{hash_limit}
@@ -26,7 +31,7 @@ use Rattle.record.specs.declared.Phase.TheVariants.{Idle}
 use Rattle.reg_map.specs.Map.{register_at, register_for}
 use Rattle.reg_map.specs.declared.Register.{Register}
 use Rattle.reg_map.specs.declared.Register.TheVariants.{Access, Sts}
-use Rattle.reg_map.proofs.MapLaws.{Inert, register_elim, access_apart, fifo_apart, sts_is, at_sts}
+use Rattle.reg_map.proofs.MapLaws.{Inert, register_elim, access_apart, fifo_apart, at_sts}
 use Rattle.reg_sts_read.specs.Size.{declared_size}
 use Rattle.reg_interrupts.specs.Interrupts.{write_enable, write_status}
 use Rattle.reg_sts_write.specs.Completion.{ignored, bad_size}
@@ -50,25 +55,25 @@ use Rattle.call_outcome.specs.Result.{Result, result}
 use Rattle.call_outcome.specs.declared.ReadOutcome.{ReadOutcome}
 use Rattle.call_bus.specs.Bus.{refused_read, seen, accepted_read, read_cycle, read_outcome, read, refused_write, done, accepted_write, resolved_write, write_cycle, left_by, write}
 
-abbrev pub owner : Device → Owner
+abbrev pub owner : Device → Option Locality
 owner d = d.control.arbiter.active
 
 -- ---- a read
 
-abbrev pub gives : ℕ → ℕ → Device → ReadOutcome
+abbrev pub gives : Option Refusal → ℕ → Device → ReadOutcome
 gives n b d = record { refusal = n; byte = b; device = d }
 
 pub data ReadCase (d : Device) (w r : List ℕ) (o : ℕ) : ReadOutcome → Type 0 where
-  refused : {n : ℕ} → n ≡ bus_refusal_of d w r o → (n ≡ accepted → ⊥) → ReadCase d w r o (gives n 0xff d)
+  refused : {n : Option Refusal} → n ≡ bus_refusal_of d w r o → (n ≡ None → ⊥) → ReadCase d w r o (gives n 0xff d)
   -- of another register than the FIFO
-  stays : bus_refusal_of d w r o ≡ accepted → in_four data_fifo (place_of o) ≡ false → (b : ℕ) → ReadCase d w r o (gives accepted b d)
+  stays : bus_refusal_of d w r o ≡ None → in_four data_fifo (place_of o) ≡ false → (b : ℕ) → ReadCase d w r o (gives None b d)
   -- of the FIFO, by the active locality and by another
-  moves : bus_refusal_of d w r o ≡ accepted → in_four data_fifo (place_of o) ≡ true → holds (owner d) (page_at o) ≡ true
-      → ReadCase d w r o (gives accepted (fifo_byte d.phase r) (with_phase d (after_read d.phase)))
-  misses : bus_refusal_of d w r o ≡ accepted → in_four data_fifo (place_of o) ≡ true → holds (owner d) (page_at o) ≡ false → ReadCase d w r o (gives accepted 0xff d)
+  moves : bus_refusal_of d w r o ≡ None → in_four data_fifo (place_of o) ≡ true → holds (owner d) (page_at o) ≡ true
+      → ReadCase d w r o (gives None (fifo_byte d.phase r) (with_phase d (after_read d.phase)))
+  misses : bus_refusal_of d w r o ≡ None → in_four data_fifo (place_of o) ≡ true → holds (owner d) (page_at o) ≡ false → ReadCase d w r o (gives None 0xff d)
 
 module _ (d : Device) (w r : List ℕ) (o : ℕ) where
-  register_read_lem : bus_refusal_of d w r o ≡ accepted → ReadCase d w r o (read_outcome (accepted_read o d.control d.phase d.identity w r) d)
+  register_read_lem : bus_refusal_of d w r o ≡ None → ReadCase d w r o (read_outcome (accepted_read o d.control d.phase d.identity w r) d)
   unfolding accepted_read register_read
   register_read_lem e =
       register_elim
@@ -83,22 +88,22 @@ module _ (d : Device) (w r : List ℕ) (o : ℕ) where
 
   pub read_case : ReadCase d w r o (read d w r o)
   unfolding read read_cycle
-  read_case = by (eqb (bus_refusal_of d w r o) accepted) refl
+  read_case = by (accepted (bus_refusal_of d w r o)) refl
     where
-      by : (t : Bool) → eqb (bus_refusal_of d w r o) accepted ≡ t
+      by : (t : Bool) → accepted (bus_refusal_of d w r o) ≡ t
           → ReadCase d w r o (read_outcome (cond t (accepted_read o d.control d.phase d.identity w r) (refused_read (bus_refusal_of d w r o) d.phase)) d)
-      by true e = register_read_lem (eqb-true (bus_refusal_of d w r o) accepted e)
-      by false e = refused refl (eqb-false (bus_refusal_of d w r o) accepted e)
+      by true e = register_read_lem (accepts_true (bus_refusal_of d w r o) e)
+      by false e = refused refl (accepts_false (bus_refusal_of d w r o) e)
 
   -- a locality that is not active reads FFh at STS
-  pub sts_misses : bus_refusal_of d w r o ≡ accepted → within sts (sts + 2) (place_of o) ≡ true → holds (owner d) (page_at o) ≡ false → read d w r o ≡ gives accepted 0xff d
+  pub sts_misses : bus_refusal_of d w r o ≡ None → within sts (sts + 2) (place_of o) ≡ true → holds (owner d) (page_at o) ≡ false → read d w r o ≡ gives None 0xff d
   unfolding read read_cycle accepted_read register_read
-  sts_misses e i h = rw (eq-eqb (bus_refusal_of d w r o) accepted e, register, h) refl
+  sts_misses e i h = rw (e, register, h) refl
     where
       register : register_for o ≡ Sts (place_of o % 4)
       register =
           let k : _ = within_then sts (sts + 2) (place_of o) i in
-          sym (at_sts (place_of o) (Sts (place_of o % 4)) (omega arith) (sts_is (place_of o % 4) (omega arith)))
+          sym (at_sts (place_of o) (omega arith) (omega arith))
 
 -- ---- a write
 
@@ -162,11 +167,11 @@ module _ (d : Device) (w r : List ℕ) (o v : ℕ) where
         → Writes (commanded_device d c) (update_write_fifo c.fifos v w) (update_read_fifo c.fifos bad_size r)
 
   pub data WriteCase : Result → Type 0 where
-    refused : {n : ℕ} → n ≡ bus_refusal_of d w r o → (n ≡ accepted → ⊥) → WriteCase (result n d w r)
+    refused : {n : Option Refusal} → n ≡ bus_refusal_of d w r o → (n ≡ None → ⊥) → WriteCase (result n d w r)
     -- hash data beyond the limit
-    overlong : bus_refusal_of d w r o ≡ accepted → hash_page o d.launch.sequence ≡ true → in_four hash_data o ≡ true → hash_limit ≤ d.launch.stream.count
-        → WriteCase (result hash_length d w r)
-    accepts : {d' : Device} {w' r' : List ℕ} → bus_refusal_of d w r o ≡ accepted → Writes d' w' r' → WriteCase (result accepted d' w' r')
+    overlong : bus_refusal_of d w r o ≡ None → hash_page o d.launch.sequence ≡ true → in_four hash_data o ≡ true → hash_limit ≤ d.launch.stream.count
+        → WriteCase (result (Some HashLength) d w r)
+    accepts : {d' : Device} {w' r' : List ℕ} → bus_refusal_of d w r o ≡ None → Writes d' w' r' → WriteCase (result None d' w' r')
 
   abbrev left : WriteKind → Result
   left kind = left_by (resolved_write kind o d.control d.phase (hash_progress d.launch) w v) d w r v
@@ -175,7 +180,7 @@ module _ (d : Device) (w r : List ℕ) (o v : ℕ) where
   unfolding register_at
   at_access q = rw q refl
 
-  module _ (z : bus_refusal_of d w r o ≡ accepted) where
+  module _ (z : bus_refusal_of d w r o ≡ None) where
     l : o ≤ last_offset
     l = (bus_then _ _ o z).1
 
@@ -197,7 +202,7 @@ module _ (d : Device) (w r : List ℕ) (o v : ℕ) where
         (λ e. accepts z (sets u q n h _ (clears e))) (λ j i. still i) (λ e. status e (eqb (place_of o - sts) 0) refl)
         (λ e. accepts z (commands u q n h _ (fifo_case d.control.run (declared_size w) (length w) d.phase) (byte e))) (λ j i. still i) (λ i. still i)
       where
-        still : Inert (place_of o) → WriteCase (result accepted d w r)
+        still : Inert (place_of o) → WriteCase (result None d w r)
         still i = accepts z (ignores (register_ignored u q n i))
 
         status : within sts (sts + 2) (place_of o) ≡ true → (t : Bool) → eqb (place_of o - sts) 0 ≡ t
@@ -217,7 +222,7 @@ module _ (d : Device) (w r : List ℕ) (o v : ℕ) where
     resolved_case kind (resolving.joins u h i) = by (leb hash_limit d.launch.stream.count) refl
       where
         by : (t : Bool) → leb hash_limit d.launch.stream.count ≡ t
-            → WriteCase (left_by (cond t (refused_write hash_length d.control d.phase) (accepted_write HashData o d.control d.phase w v)) d w r v)
+            → WriteCase (left_by (cond t (refused_write (Some HashLength) d.control d.phase) (accepted_write HashData o d.control d.phase w v)) d w r v)
         by true e = overlong z h i (leb-true hash_limit d.launch.stream.count e)
         by false e = accepts z (joins u h i (leb-false hash_limit d.launch.stream.count e))
     resolved_case kind (resolving.page_ignored u h i) = accepts z (ignores (page_ignored u h i))
@@ -227,9 +232,9 @@ module _ (d : Device) (w r : List ℕ) (o v : ℕ) where
 
   pub write_case : WriteCase (write d w r o v)
   unfolding write write_cycle launch_after pcrs_after
-  write_case = by (eqb (bus_refusal_of d w r o) accepted) refl
+  write_case = by (accepted (bus_refusal_of d w r o)) refl
     where
-      by : (t : Bool) → eqb (bus_refusal_of d w r o) accepted ≡ t
+      by : (t : Bool) → accepted (bus_refusal_of d w r o) ≡ t
           → WriteCase (left_by (cond t (resolved_write (resolve o d.launch.sequence (owner d)) o d.control d.phase (hash_progress d.launch) w v) (refused_write (bus_refusal_of d w r o) d.control d.phase)) d w r v)
-      by true e = resolved_case (eqb-true (bus_refusal_of d w r o) accepted e) (resolve o d.launch.sequence (owner d)) (resolved o d.launch.sequence (owner d))
-      by false e = refused refl (eqb-false (bus_refusal_of d w r o) accepted e)
+      by true e = resolved_case (accepts_true (bus_refusal_of d w r o) e) (resolve o d.launch.sequence (owner d)) (resolved o d.launch.sequence (owner d))
+      by false e = refused refl (accepts_false (bus_refusal_of d w r o) e)

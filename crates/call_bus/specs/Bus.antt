@@ -1,6 +1,8 @@
 -- Bus cycles (document 01, 'The pages'): one read and one write, for any record, FIFOs, offset and byte. Assumes nothing.
-use Rattle.std.specs.Prelude.{ℕ, ◌≡◌, cond, List, length, eqb}
-use Rattle.refusal.specs.Refusal.{accepted, hash_length}
+use Rattle.std.specs.Prelude.{ℕ, ◌≡◌, cond, List, length, Option, None, Some}
+use Rattle.refusal.specs.Refusal.{accepts}
+use Rattle.refusal.specs.declared.Refusal.{Refusal}
+use Rattle.refusal.specs.declared.Refusal.TheVariants.{HashLength}
 use Rattle.arbiter.specs.State.{holds}
 use Rattle.record.specs.Record.{with_parts, with_phase, hash_progress}
 use Rattle.record.specs.declared.Control.{Control}
@@ -30,11 +32,11 @@ use Rattle.call_bus.specs.declared.writing.WriteCycle.{WriteCycle}
 -- ---- read
 
 -- "a refused read gives FFh"
-abbrev pub refused_read : ℕ → Phase → ReadCycle
+abbrev pub refused_read : Option Refusal → Phase → ReadCycle
 refused_read n p = record { refusal = n; byte = 0xff; phase = p }
 
 abbrev pub seen : RegisterRead → ReadCycle
-seen s = record { refusal = accepted; byte = s.byte; phase = s.phase }
+seen s = record { refusal = None; byte = s.byte; phase = s.phase }
 
 -- 'The pages': "Offset / 1000h is the locality", and the rest of it names the register
 unfoldable pub accepted_read : ℕ → Control → Phase → List ℕ → List ℕ → List ℕ → ReadCycle
@@ -44,7 +46,7 @@ accepted_read o k p identity w r =
 -- "Order: 2, 6, 1 for bus cycles"
 unfoldable pub read_cycle : Control → Phase → HashProgress → List ℕ → List ℕ → List ℕ → ℕ → ReadCycle
 read_cycle k p h identity w r o =
-    cond (eqb (bus_refusal (shape_view k p h) (lengths_of w r) o) accepted)
+    cond (accepts (bus_refusal (shape_view k p h) (lengths_of w r) o))
     (accepted_read o k p identity w r)
     (refused_read (bus_refusal (shape_view k p h) (lengths_of w r) o) p)
 
@@ -58,11 +60,11 @@ read d w r o = read_outcome (read_cycle d.control d.phase (hash_progress d.launc
 -- ---- write
 
 -- "A refusal changes nothing"
-abbrev pub refused_write : ℕ → Control → Phase → WriteCycle
+abbrev pub refused_write : Option Refusal → Control → Phase → WriteCycle
 refused_write n k p = record { refusal = n; kind = Ignored; control = k; phase = p; fifos = Keep }
 
 abbrev pub done : WriteKind → Effect → WriteCycle
-done kind e = record { refusal = accepted; kind = kind; control = e.control; phase = e.phase; fifos = e.fifos }
+done kind e = record { refusal = None; kind = kind; control = e.control; phase = e.phase; fifos = e.fifos }
 
 -- what the write does but for the hash sequence and the PCRs
 unfoldable pub accepted_write : WriteKind → ℕ → Control → Phase → List ℕ → ℕ → WriteCycle
@@ -70,12 +72,12 @@ accepted_write kind o k p w v = done kind (write_effect kind (page_at o) k p (de
 
 -- "Order: 2, 6, 1 for bus cycles, then 7": a branch of its own
 abbrev pub resolved_write : WriteKind → ℕ → Control → Phase → HashProgress → List ℕ → ℕ → WriteCycle
-resolved_write kind o k p h w v = cond (overlong kind h.count) (refused_write hash_length k p) (accepted_write kind o k p w v)
+resolved_write kind o k p h w v = cond (overlong kind h.count) (refused_write (Some HashLength) k p) (accepted_write kind o k p w v)
 
 -- "An accepted write, first that applies" is `resolve`
 unfoldable pub write_cycle : Control → Phase → HashProgress → List ℕ → List ℕ → ℕ → ℕ → WriteCycle
 write_cycle k p h w r o v =
-    cond (eqb (bus_refusal (shape_view k p h) (lengths_of w r) o) accepted)
+    cond (accepts (bus_refusal (shape_view k p h) (lengths_of w r) o))
     (resolved_write (resolve o h.sequence k.arbiter.active) o k p h w v)
     (refused_write (bus_refusal (shape_view k p h) (lengths_of w r) o) k p)
 

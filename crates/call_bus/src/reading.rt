@@ -4,25 +4,28 @@ ghost use Rattle.reg_layout.specs.Offsets.{last_offset};
 ghost use Rattle.record.specs.Limits.{fifo_least, fifo_greatest};
 ghost use Rattle.call_bus.specs.Bus.{accepted_read, read_cycle, read as read_spec};
 
-use crate::cycle_refusal;
+use crate::cycle_admission;
+use arbiter::Page;
 use arbiter::access::holds;
 use bus_read::register_read;
 use bus_resolve::page_at;
 use call_outcome::ReadOutcome;
 use record::{Control, Device, HashProgress, Phase, hash_progress};
-use record_shape::Lengths;
+use record_shape::lengths_of;
+use refusal::Refusal;
 use reg_layout::PAGE;
 use reg_map::register_at;
-use reg_sts_read::size::declared_size;
+use reg_sts_read::size::Sizes;
 
 // What a read comes to: of the record only the phase may change.
 #[derive(Clone, Copy)]
 pub struct ReadCycle {
-    pub refusal: u8,
+    pub refusal: Option<Refusal>,
     pub byte: u8,
     pub phase: Phase,
 }
 
+#[tactic(auto, unfolding(crate::specs::Bus::accepted_read))]
 fn accepted_read(
     offset: u16,
     control: Control,
@@ -34,28 +37,25 @@ fn accepted_read(
     requires { (offset ≤ last_offset) × (fifo_least ≤ length write_fifo.now) × (length write_fifo.now ≤ fifo_greatest) }
     ensures { result ≡ accepted_read offset control phase identity write_fifo.now read_fifo.now }
 {
-    let arbiter = control.arbiter;
-    let owner = arbiter.active;
-    let x = page_at(offset);
+    let locality = page_at(offset);
     let s = register_read(
         register_at(offset % PAGE),
-        x,
-        holds(owner, x),
+        Page { locality },
+        holds(control.arbiter.active, locality),
         control,
         phase,
         identity,
-        declared_size(write_fifo),
-        write_fifo.len() as u16,
+        Sizes::of(write_fifo),
         read_fifo,
     );
-    let next = s.phase;
     ReadCycle {
-        refusal: refusal::ACCEPTED,
+        refusal: None,
         byte: s.byte,
-        phase: next,
+        phase: s.phase,
     }
 }
 
+#[tactic(auto, unfolding(crate::specs::Bus::read_cycle))]
 pub fn read_cycle(
     control: Control,
     phase: Phase,
@@ -67,14 +67,10 @@ pub fn read_cycle(
 ) -> ReadCycle
     ensures { result ≡ read_cycle control phase hash identity write_fifo.now read_fifo.now offset }
 {
-    let lengths = Lengths {
-        write: write_fifo.len(),
-        read: read_fifo.len(),
-    };
-    let n = cycle_refusal(control, phase, hash, lengths, offset);
-    if n != refusal::ACCEPTED {
+    let lengths = lengths_of(write_fifo, read_fifo);
+    if let Err(refusal) = cycle_admission(control, phase, hash, lengths, offset) {
         return ReadCycle {
-            refusal: n,
+            refusal: Some(refusal),
             byte: 0xff,
             phase,
         };
@@ -89,28 +85,25 @@ pub fn read_cycle(
     )
 }
 
+#[tactic(auto, unfolding(crate::specs::Bus::read))]
 pub fn read(device: Device, write_fifo: &[u8], read_fifo: &[u8], offset: u64) -> ReadOutcome
     ensures { result ≡ read_spec device write_fifo.now read_fifo.now offset }
 {
-    let control = device.control;
-    let phase = device.phase;
-    let identity = device.identity;
-    let launch = device.launch;
-    let pcrs = device.pcrs;
-    let hash = hash_progress(launch);
     let t = read_cycle(
-        control, phase, hash, identity, write_fifo, read_fifo, offset,
+        device.control,
+        device.phase,
+        hash_progress(device.launch),
+        device.identity,
+        write_fifo,
+        read_fifo,
+        offset,
     );
-    let next = t.phase;
     ReadOutcome {
         refusal: t.refusal,
         byte: t.byte,
         device: Device {
-            control,
-            phase: next,
-            identity,
-            launch,
-            pcrs,
+            phase: t.phase,
+            ..device
         },
     }
 }

@@ -5,32 +5,34 @@ ghost use Rattle.record.specs.Limits.{fifo_least, fifo_greatest};
 ghost use Rattle.call_outcome.specs.Result.{Leaves};
 ghost use Rattle.call_bus.specs.Bus.{refused_write, accepted_write, write_cycle, Cycled, write as write_spec};
 
-use crate::cycle_refusal;
+use crate::cycle_admission;
+use arbiter::Page;
 use bus_resolve::{WriteKind, page_at, resolve};
 use bus_write::write_effect;
 use call_outcome::Outcome;
 use launch::{hash_step, launch_after, overlong, pcrs_after};
 use record::{Control, Device, HashProgress, Phase, hash_progress};
-use record_shape::Lengths;
+use record_shape::lengths_of;
+use refusal::Refusal;
 use reg_fifo::{FifoAction, update_fifos};
-use reg_sts_read::size::declared_size;
+use reg_sts_read::size::Sizes;
 use reg_sts_write::completion::BAD_SIZE;
 
 // What a write comes to but for the hash sequence and the PCRs, which its kind changes; the kind of a refused one is Ignored.
 #[derive(Clone, Copy)]
 pub struct WriteCycle {
-    pub refusal: u8,
+    pub refusal: Option<Refusal>,
     pub kind: WriteKind,
     pub control: Control,
     pub phase: Phase,
     pub fifos: FifoAction,
 }
 
-fn refused_write(n: u8, control: Control, phase: Phase) -> WriteCycle
-    ensures { result ≡ refused_write n control phase }
+fn refused_write(refusal: Refusal, control: Control, phase: Phase) -> WriteCycle
+    ensures { result ≡ refused_write (Some refusal) control phase }
 {
     WriteCycle {
-        refusal: n,
+        refusal: Some(refusal),
         kind: WriteKind::Ignored,
         control,
         phase,
@@ -38,6 +40,7 @@ fn refused_write(n: u8, control: Control, phase: Phase) -> WriteCycle
     }
 }
 
+#[tactic(auto, unfolding(crate::specs::Bus::accepted_write))]
 fn accepted_write(
     kind: WriteKind,
     offset: u16,
@@ -50,29 +53,27 @@ fn accepted_write(
     requires { (offset ≤ last_offset) × (fifo_least ≤ length write_fifo.old) × (length write_fifo.old ≤ fifo_greatest) × (length read_fifo.old ≡ length write_fifo.old) }
     ensures { Cycled result write_fifo.old read_fifo.old byte write_fifo.new read_fifo.new (accepted_write kind offset control phase write_fifo.old byte) }
 {
-    let x = page_at(offset);
     let e = write_effect(
         kind,
-        x,
+        Page {
+            locality: page_at(offset),
+        },
         control,
         phase,
-        declared_size(write_fifo),
-        write_fifo.len() as u16,
+        Sizes::of(write_fifo),
         byte,
     );
-    let after = e.control;
-    let next = e.phase;
-    let fifos = e.fifos;
-    update_fifos(fifos, write_fifo, read_fifo, byte, &BAD_SIZE);
+    update_fifos(e.fifos, write_fifo, read_fifo, byte, &BAD_SIZE);
     WriteCycle {
-        refusal: refusal::ACCEPTED,
+        refusal: None,
         kind,
-        control: after,
-        phase: next,
-        fifos,
+        control: e.control,
+        phase: e.phase,
+        fifos: e.fifos,
     }
 }
 
+#[tactic(auto, unfolding(crate::specs::Bus::write_cycle))]
 pub fn write_cycle(
     control: Control,
     phase: Phase,
@@ -84,25 +85,20 @@ pub fn write_cycle(
 ) -> WriteCycle
     ensures { Cycled result write_fifo.old read_fifo.old byte write_fifo.new read_fifo.new (write_cycle control phase hash write_fifo.old read_fifo.old offset byte) }
 {
-    let lengths = Lengths {
-        write: write_fifo.len(),
-        read: read_fifo.len(),
-    };
-    let n = cycle_refusal(control, phase, hash, lengths, offset);
-    if n != refusal::ACCEPTED {
-        return refused_write(n, control, phase);
+    let lengths = lengths_of(write_fifo, read_fifo);
+    if let Err(refusal) = cycle_admission(control, phase, hash, lengths, offset) {
+        return refused_write(refusal, control, phase);
     }
-    let arbiter = control.arbiter;
-    let owner = arbiter.active;
     let at = offset as u16;
-    let kind = resolve(at, hash.sequence, owner);
+    let kind = resolve(at, hash.sequence, control.arbiter.active);
     if overlong(kind, hash.count) {
-        return refused_write(refusal::HASH_LENGTH, control, phase);
+        return refused_write(Refusal::HashLength, control, phase);
     }
     accepted_write(kind, at, control, phase, write_fifo, read_fifo, byte)
 }
 
 // A step of the hash sequence goes a way of its own, since the bank and the stream are left alone on the other.
+#[tactic(auto, using(launch::proofs::LaunchLaws::launch_left, launch::proofs::LaunchLaws::pcrs_left), unfolding(crate::specs::Bus::write))]
 pub fn write(
     device: Device,
     write_fifo: &mut [u8],
@@ -112,36 +108,35 @@ pub fn write(
 ) -> Outcome
     ensures { Leaves result write_fifo.new read_fifo.new (write_spec device write_fifo.old read_fifo.old offset byte) }
 {
-    let control = device.control;
-    let phase = device.phase;
-    let identity = device.identity;
-    let launch = device.launch;
-    let pcrs = device.pcrs;
-    let hash = hash_progress(launch);
-    let t = write_cycle(control, phase, hash, write_fifo, read_fifo, offset, byte);
-    let kind = t.kind;
-    let after = t.control;
-    let next = t.phase;
-    if hash_step(kind) {
+    let t = write_cycle(
+        device.control,
+        device.phase,
+        hash_progress(device.launch),
+        write_fifo,
+        read_fifo,
+        offset,
+        byte,
+    );
+    if hash_step(t.kind) {
+        // a variable of its own: the borrow checker has no rule for an array field put straight into a literal
+        let identity = device.identity;
         return Outcome {
             refusal: t.refusal,
             device: Device {
-                control: after,
-                phase: next,
+                control: t.control,
+                phase: t.phase,
                 identity,
-                launch: launch_after(kind, launch, byte),
-                pcrs: pcrs_after(kind, launch, pcrs),
+                launch: launch_after(t.kind, device.launch, byte),
+                pcrs: pcrs_after(t.kind, device.launch, device.pcrs),
             },
         };
     }
     Outcome {
         refusal: t.refusal,
         device: Device {
-            control: after,
-            phase: next,
-            identity,
-            launch,
-            pcrs,
+            control: t.control,
+            phase: t.phase,
+            ..device
         },
     }
 }

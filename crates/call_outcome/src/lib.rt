@@ -1,19 +1,20 @@
-// What a call of the register front leaves: its refusal number, the record, and for a read the byte.
+// What a call of the register front leaves: what it was refused for, if it was, the record, and for a read the byte.
 #![tactic(auto)]
 
 use record::Device;
+use refusal::Refusal;
 
-// A call's refusal number (0: accepted) and the record afterwards.
+// What a call was refused for, none where it was accepted, and the record afterwards: a refused call has one too (`refusals_change_nothing`).
 #[derive(Clone, Copy)]
 pub struct Outcome {
-    pub refusal: u8,
+    pub refusal: Option<Refusal>,
     pub device: Device,
 }
 
-// The same, with the byte that a read gives.
+// The same, with the byte that a read gives, beside the refusal since document 01 names a refused one's, FFh (`refusals_change_nothing.value`).
 #[derive(Clone, Copy)]
 pub struct ReadOutcome {
-    pub refusal: u8,
+    pub refusal: Option<Refusal>,
     pub byte: u8,
     pub device: Device,
 }

@@ -1,2 +1,1 @@
-pub mod PowerLaws
 pub mod Cases

@@ -1,6 +1,7 @@
 -- Power-on and reset (document 01, 'What the device record carries'). Assumes nothing.
-use Rattle.std.specs.Prelude.{ℕ, Bool, cond, List, eqb}
-use Rattle.refusal.specs.Refusal.{accepted, fifo_length}
+use Rattle.std.specs.Prelude.{ℕ, Bool, cond, List, None, Some}
+use Rattle.refusal.specs.Refusal.{accepts}
+use Rattle.refusal.specs.declared.Refusal.TheVariants.{FifoLength}
 use Rattle.record.specs.Record.{fresh_device}
 use Rattle.record.specs.declared.Device.{Device}
 use Rattle.record_shape.specs.Shape.{lengths_of, lengths_allowed}
@@ -12,8 +13,8 @@ use Rattle.call_outcome.specs.Result.{Result, result}
 unfoldable pub power_on : Bool → List ℕ → List ℕ → List ℕ → Result
 power_on established identity w r =
     cond (lengths_allowed (lengths_of w r))
-    (result accepted (fresh_device established identity 0) (clear_fifo w) (clear_fifo r))
-    (result fifo_length (fresh_device established identity 0) w r)
+    (result None (fresh_device established identity 0) (clear_fifo w) (clear_fifo r))
+    (result (Some FifoLength) (fresh_device established identity 0) w r)
 
 -- what a reset makes of a record: "Reset does the same but keeps the established flag, identity and run number."
 abbrev pub reset_device : Device → Device
@@ -22,6 +23,6 @@ reset_device d = fresh_device d.control.established d.identity d.control.run
 -- "reset and the maintenance window 2, 6"; "A refusal changes nothing"
 unfoldable pub reset : Device → List ℕ → List ℕ → Result
 reset d w r =
-    cond (eqb (lent_refusal_of d w r) accepted)
-    (result accepted (reset_device d) (clear_fifo w) (clear_fifo r))
+    cond (accepts (lent_refusal_of d w r))
+    (result None (reset_device d) (clear_fifo w) (clear_fifo r))
     (result (lent_refusal_of d w r) d w r)

@@ -4,12 +4,14 @@
 ghost use Rattle.call_outcome.specs.Result.{Leaves};
 ghost use Rattle.call_power.specs.Power.{power_on, reset as reset_spec};
 
-use call_admission::lent_refusal_of;
+use call_admission::lent_admission_of;
 use call_outcome::Outcome;
 use record::{Device, fresh_device};
-use record_shape::{Lengths, lengths_allowed};
+use record_shape::{lengths_allowed, lengths_of};
+use refusal::Refusal;
 use reg_fifo::clear_fifo;
 
+#[tactic(auto, unfolding(crate::specs::Power::power_on))]
 pub fn power_on(
     established: bool,
     identity: [u8; 5],
@@ -18,41 +20,39 @@ pub fn power_on(
 ) -> Outcome
     ensures { Leaves result write_fifo.new read_fifo.new (power_on established identity write_fifo.old read_fifo.old) }
 {
-    let lengths = Lengths {
-        write: write_fifo.len(),
-        read: read_fifo.len(),
-    };
-    if !lengths_allowed(lengths) {
+    let device = fresh_device(established, identity, 0);
+    if !lengths_allowed(lengths_of(write_fifo, read_fifo)) {
         return Outcome {
-            refusal: refusal::FIFO_LENGTH,
-            device: fresh_device(established, identity, 0),
+            refusal: Some(Refusal::FifoLength),
+            device,
         };
     }
     clear_fifo(write_fifo);
     clear_fifo(read_fifo);
     Outcome {
-        refusal: refusal::ACCEPTED,
-        device: fresh_device(established, identity, 0),
+        refusal: None,
+        device,
     }
 }
 
+#[tactic(auto, unfolding(crate::specs::Power::reset))]
 pub fn reset(device: Device, write_fifo: &mut [u8], read_fifo: &mut [u8]) -> Outcome
     ensures { Leaves result write_fifo.new read_fifo.new (reset_spec device write_fifo.old read_fifo.old) }
 {
-    let control = device.control;
-    let identity = device.identity;
-    let lengths = Lengths {
-        write: write_fifo.len(),
-        read: read_fifo.len(),
-    };
-    let n = lent_refusal_of(device, lengths);
-    if n != refusal::ACCEPTED {
-        return Outcome { refusal: n, device };
+    if let Err(refusal) = lent_admission_of(device, lengths_of(write_fifo, read_fifo)) {
+        return Outcome {
+            refusal: Some(refusal),
+            device,
+        };
     }
     clear_fifo(write_fifo);
     clear_fifo(read_fifo);
     Outcome {
-        refusal: refusal::ACCEPTED,
-        device: fresh_device(control.established, identity, control.run),
+        refusal: None,
+        device: fresh_device(
+            device.control.established,
+            device.identity,
+            device.control.run,
+        ),
     }
 }

@@ -3,9 +3,11 @@ use mathlib.Core.Path.{◌≡◌, refl}
 use mathlib.Core.Bool.{Bool, true, false, cond, ◌||◌}
 use mathlib.Core.List.{List}
 use Prim.Native.Nat.{ℕ}
-use lib.Dec.{eqb, leb}
-use borrow.Author.Tests.{eqb-true, eqb-false}
-use Rattle.refusal.specs.Refusal.{accepted}
+use lib.Dec.{leb}
+use Rattle.std.specs.Prelude.{Option, None}
+use Rattle.refusal.specs.Refusal.{accepts}
+use Rattle.refusal.specs.declared.Refusal.{Refusal}
+use Rattle.refusal.proofs.RefusalNumbers.{accepts_true, accepts_false}
 use Rattle.arbiter.specs.State.{localities}
 use Rattle.pcr.specs.Bank.{pcrs, all_bytes, value_at}
 use Rattle.pcr.specs.Permission as table
@@ -18,30 +20,30 @@ use Rattle.call_query.specs.declared.Span.{Span}
 use Rattle.call_query.specs.Query.{pcr_outcome, pcr_value, no_span, span_in, window_span}
 
 pub data PcrCase (d : Device) (i : ℕ) : PcrOutcome → Type 0 where
-  refused : {n : ℕ} → (n ≡ accepted → ⊥) → PcrCase d i (pcr_outcome n (all_bytes 0))
-  given : pcr_refusal_of d i ≡ accepted → PcrCase d i (pcr_outcome accepted (value_at d.pcrs i))
+  refused : {n : Option Refusal} → (n ≡ None → ⊥) → PcrCase d i (pcr_outcome n (all_bytes 0))
+  given : pcr_refusal_of d i ≡ None → PcrCase d i (pcr_outcome None (value_at d.pcrs i))
 
 pub pcr_case : (d : Device) (i : ℕ) → PcrCase d i (pcr_value d i)
 unfolding pcr_value
-pcr_case d i = by (eqb (pcr_refusal_of d i) accepted) refl
+pcr_case d i = by (accepts (pcr_refusal_of d i)) refl
   where
-    by : (t : Bool) → eqb (pcr_refusal_of d i) accepted ≡ t
-        → PcrCase d i (cond t (pcr_outcome accepted (value_at d.pcrs i)) (pcr_outcome (pcr_refusal_of d i) (all_bytes 0)))
-    by true e = given (eqb-true (pcr_refusal_of d i) accepted e)
-    by false e = refused (eqb-false (pcr_refusal_of d i) accepted e)
+    by : (t : Bool) → accepts (pcr_refusal_of d i) ≡ t
+        → PcrCase d i (cond t (pcr_outcome None (value_at d.pcrs i)) (pcr_outcome (pcr_refusal_of d i) (all_bytes 0)))
+    by true e = given (accepts_true (pcr_refusal_of d i) e)
+    by false e = refused (accepts_false (pcr_refusal_of d i) e)
 
--- the refusal number, and the part of a FIFO
-pub data WindowCase (d : Device) (w r : List ℕ) : ℕ → Span → Type 0 where
-  refused : {n : ℕ} → (n ≡ accepted → ⊥) → WindowCase d w r n no_span
-  shows : {n : ℕ} → n ≡ accepted → WindowCase d w r n (span_in d.phase)
+-- the refusal, and the part of a FIFO
+pub data WindowCase (d : Device) (w r : List ℕ) : Option Refusal → Span → Type 0 where
+  refused : {n : Option Refusal} → (n ≡ None → ⊥) → WindowCase d w r n no_span
+  shows : {n : Option Refusal} → n ≡ None → WindowCase d w r n (span_in d.phase)
 
 pub window_case : (d : Device) (w r : List ℕ) → WindowCase d w r (lent_refusal_of d w r) (window_span d w r)
 unfolding window_span
-window_case d w r = by (eqb (lent_refusal_of d w r) accepted) refl
+window_case d w r = by (accepts (lent_refusal_of d w r)) refl
   where
-    by : (t : Bool) → eqb (lent_refusal_of d w r) accepted ≡ t → WindowCase d w r (lent_refusal_of d w r) (cond t (span_in d.phase) no_span)
-    by true e = shows (eqb-true (lent_refusal_of d w r) accepted e)
-    by false e = refused (eqb-false (lent_refusal_of d w r) accepted e)
+    by : (t : Bool) → accepts (lent_refusal_of d w r) ≡ t → WindowCase d w r (lent_refusal_of d w r) (cond t (span_in d.phase) no_span)
+    by true e = shows (accepts_true (lent_refusal_of d w r) e)
+    by false e = refused (accepts_false (lent_refusal_of d w r) e)
 
 pub data PermissionCase (rule : ℕ → ℕ → Bool) (i x : ℕ) : Permission → Type 0 where
   refused : PermissionCase rule i x table.refused

@@ -1,7 +1,8 @@
 -- The questions asked of the record (document 01): a PCR's value, the interrupt line, the maintenance window. Assumes nothing.
-use Rattle.std.specs.Prelude.{ℕ, ◌+◌, ◌-◌, ◌≡◌, Bool, true, false, cond, List, take, drop, eqb}
+use Rattle.std.specs.Prelude.{ℕ, ◌+◌, ◌-◌, ◌≡◌, Bool, true, false, cond, List, take, drop, Option, None}
 use Rattle.std.specs.Borrow.{Bor}
-use Rattle.refusal.specs.Refusal.{accepted}
+use Rattle.refusal.specs.Refusal.{accepts}
+use Rattle.refusal.specs.declared.Refusal.{Refusal}
 use Rattle.pcr.specs.Bank.{value_at, all_bytes}
 use Rattle.record.specs.declared.Device.{Device}
 use Rattle.record.specs.declared.Phase.{Phase}
@@ -11,13 +12,13 @@ use Rattle.call_admission.specs.Refusals.{lent_refusal_of, pcr_refusal_of}
 use Rattle.call_query.specs.declared.PcrOutcome.{PcrOutcome}
 use Rattle.call_query.specs.declared.Span.{Span}
 
-abbrev pub pcr_outcome : ℕ → List ℕ → PcrOutcome
+abbrev pub pcr_outcome : Option Refusal → List ℕ → PcrOutcome
 pcr_outcome n value = record { refusal = n; value = value }
 
 -- "a refused PCR read gives twenty 00h"
 unfoldable pub pcr_value : Device → ℕ → PcrOutcome
 pcr_value d index =
-    cond (eqb (pcr_refusal_of d index) accepted) (pcr_outcome accepted (value_at d.pcrs index)) (pcr_outcome (pcr_refusal_of d index) (all_bytes 0))
+    cond (accepts (pcr_refusal_of d index)) (pcr_outcome None (value_at d.pcrs index)) (pcr_outcome (pcr_refusal_of d index) (all_bytes 0))
 
 -- the line: "this question never refuses"
 abbrev pub interrupt_line : Device → Bool
@@ -42,7 +43,7 @@ span_in (Completion n k) = span true k n
 
 -- ".. or when refused"
 unfoldable pub window_span : Device → List ℕ → List ℕ → Span
-window_span d w r = cond (eqb (lent_refusal_of d w r) accepted) (span_in d.phase) no_span
+window_span d w r = cond (accepts (lent_refusal_of d w r)) (span_in d.phase) no_span
 
 -- "It is that FIFO's own memory, not a copy": t refers to the bytes of s from a place on
 pub record Shows (t s : Bor (List ℕ)) (from to : ℕ) : Type 0 where

@@ -1,22 +1,32 @@
 // The questions asked of the record, and of the permission table (document 01).
 #![tactic(auto)]
 
-ghost use Rattle.std.specs.Prelude.{◌≡◌, cond, eqb};
+ghost use Rattle.std.specs.Prelude.{◌≡◌};
 ghost use Rattle.pcr.specs.Permission.{permission, may_reset, may_extend};
 ghost use Rattle.call_admission.specs.Refusals.{lent_refusal_of};
 ghost use Rattle.call_query.specs.Query.{pcr_value, interrupt_line, no_span, span_in, window_span, Window};
 
 use arbiter::Locality;
-use call_admission::{lent_refusal_of, pcr_refusal};
+use call_admission::{lent_admission_of, pcr_admission};
 use pcr::{PcrIndex, Permission};
 use record::{Device, Phase};
-use record_shape::{Lengths, view_of};
+use record_shape::{lengths_of, view_of};
+use refusal::Refusal;
 use reg_interrupts::line_asserted;
 
+// A PCR's value beside the refusal, since document 01 names a refused one's, twenty 00h (`refusals_change_nothing.value`).
 #[derive(Clone, Copy)]
 pub struct PcrOutcome {
-    pub refusal: u8,
+    pub refusal: Option<Refusal>,
     pub value: [u8; 20],
+}
+
+// The bytes of a FIFO that are in use, in that FIFO's own memory, beside the refusal: a refused window shows none
+// (`refusals_change_nothing.value`).
+#[derive(Clone, Copy)]
+pub struct WindowOutcome<'a> {
+    pub refusal: Option<Refusal>,
+    pub bytes: &'a [u8],
 }
 
 // The part of a FIFO that is in use: of which FIFO, from where to where.
@@ -42,25 +52,22 @@ pub fn may_extend(index: PcrIndex, x: Locality) -> Permission
 pub fn interrupt_line(device: Device) -> bool
     ensures { result ≡ interrupt_line device }
 {
-    let control = device.control;
-    let interrupts = control.interrupts;
-    line_asserted(interrupts)
+    line_asserted(device.control.interrupts)
 }
 
+#[tactic(auto, using(call_admission::proofs::RefusalLaws::pcr_below), unfolding(crate::specs::Query::pcr_value))]
 pub fn pcr_value(device: Device, index: PcrIndex) -> PcrOutcome
     ensures { result ≡ pcr_value device index.0 }
 {
-    let pcrs = device.pcrs;
-    let n = pcr_refusal(view_of(device), index);
-    if n != refusal::ACCEPTED {
-        return PcrOutcome {
-            refusal: n,
-            value: [0u8; 20],
-        };
-    }
-    PcrOutcome {
-        refusal: refusal::ACCEPTED,
-        value: pcr::bank::value_at(pcrs, index),
+    match pcr_admission(view_of(device), index) {
+        Ok(()) => PcrOutcome {
+            refusal: None,
+            value: pcr::bank::value_at(device.pcrs, index),
+        },
+        Err(refusal) => PcrOutcome {
+            refusal: Some(refusal),
+            value: [0; 20],
+        },
     }
 }
 
@@ -78,14 +85,8 @@ fn span_in(p: Phase) -> Span
     ensures { result ≡ span_in p }
 {
     match p {
-        Phase::Idle => no_span(),
-        Phase::Ready => no_span(),
-        Phase::Reception(n) => Span {
-            reading: false,
-            start: 0,
-            stop: n as usize,
-        },
-        Phase::Execution(n) => Span {
+        Phase::Idle | Phase::Ready => no_span(),
+        Phase::Reception(n) | Phase::Execution(n) => Span {
             reading: false,
             start: 0,
             stop: n as usize,
@@ -98,37 +99,22 @@ fn span_in(p: Phase) -> Span
     }
 }
 
-fn window_span(n: u8, p: Phase) -> Span
-    ensures { result ≡ cond (eqb n 0) (span_in p) no_span }
+// Shows the part of the lent FIFO that is in use.
+#[tactic(auto, using(crate::proofs::QueryLaws::span_fits), unfolding(crate::specs::Query::window_span))]
+pub fn window<'a>(device: Device, write_fifo: &'a [u8], read_fifo: &'a [u8]) -> WindowOutcome<'a>
+    ensures window { Window (window_span device write_fifo.now read_fifo.now) write_fifo.entry read_fifo.entry result.bytes }
+    ensures refusal { result.refusal ≡ lent_refusal_of device write_fifo.now read_fifo.now }
 {
-    if n == refusal::ACCEPTED {
-        return span_in(p);
+    if let Err(refused) = lent_admission_of(device, lengths_of(write_fifo, read_fifo)) {
+        return WindowOutcome {
+            refusal: Some(refused),
+            bytes: &write_fifo[..0],
+        };
     }
-    no_span()
-}
-
-// The part of the lent FIFO that is in use: that FIFO's own memory. The refusal number goes to `refusal`.
-pub fn window<'a>(
-    device: Device,
-    write_fifo: &'a [u8],
-    read_fifo: &'a [u8],
-    refusal: &mut u8,
-) -> &'a [u8]
-    ensures window { Window (window_span device write_fifo.now read_fifo.now) write_fifo.entry read_fifo.entry result }
-    ensures refusal_after { refusal.new ≡ lent_refusal_of device write_fifo.now read_fifo.now }
-{
-    let phase = device.phase;
-    let lengths = Lengths {
-        write: write_fifo.len(),
-        read: read_fifo.len(),
-    };
-    let n = lent_refusal_of(device, lengths);
-    *refusal = n;
-    let span = window_span(n, phase);
-    let start = span.start;
-    let stop = span.stop;
-    if span.reading {
-        return &read_fifo[start..stop];
+    let span = span_in(device.phase);
+    let fifo = if span.reading { read_fifo } else { write_fifo };
+    WindowOutcome {
+        refusal: None,
+        bytes: &fifo[span.start..span.stop],
     }
-    &write_fifo[start..stop]
 }

@@ -4,9 +4,10 @@ use mathlib.Core.Bool.{Bool, true, false, cond}
 use mathlib.Core.List.{List}
 use Prim.Native.Nat.{ℕ}
 use lib.ListN.{length}
-use lib.Dec.{eqb}
-use borrow.Author.Tests.{eqb-true, eqb-false}
-use Rattle.refusal.specs.Refusal.{accepted}
+use Rattle.std.specs.Prelude.{Option, None}
+use Rattle.refusal.specs.Refusal.{accepts}
+use Rattle.refusal.specs.declared.Refusal.{Refusal}
+use Rattle.refusal.proofs.RefusalNumbers.{accepts_true, accepts_false}
 use Rattle.record.specs.Record.{with_parts}
 use Rattle.record.specs.declared.Device.{Device}
 use Rattle.record.specs.declared.Phase.TheVariants.{Completion}
@@ -22,15 +23,15 @@ abbrev pub completed_device : Device → ℕ → Device
 completed_device d n = with_parts d (commanded_control d.control (enter_completion n d.control.run)) (Completion n 0) d.launch d.pcrs
 
 pub data RespondCase (d : Device) (w r : List ℕ) (run : ℕ) (a : List ℕ) : Result → Type 0 where
-  refused : {n : ℕ} → n ≡ answer_refusal_of d w r run a → (n ≡ accepted → ⊥) → RespondCase d w r run a (result n d w r)
-  completes : answer_refusal_of d w r run a ≡ accepted → RespondCase d w r run a (result accepted (completed_device d (length a)) (clear_fifo w) (put_answer a r))
+  refused : {n : Option Refusal} → n ≡ answer_refusal_of d w r run a → (n ≡ None → ⊥) → RespondCase d w r run a (result n d w r)
+  completes : answer_refusal_of d w r run a ≡ None → RespondCase d w r run a (result None (completed_device d (length a)) (clear_fifo w) (put_answer a r))
 
 pub respond_case : (d : Device) (w r : List ℕ) (run : ℕ) (a : List ℕ) → RespondCase d w r run a (respond d w r run a)
 unfolding respond answer_cycle accepted_answer apply_command
-respond_case d w r run a = by (eqb (answer_refusal_of d w r run a) accepted) refl
+respond_case d w r run a = by (accepts (answer_refusal_of d w r run a)) refl
   where
-    by : (t : Bool) → eqb (answer_refusal_of d w r run a) accepted ≡ t
+    by : (t : Bool) → accepts (answer_refusal_of d w r run a) ≡ t
         → RespondCase d w r run a
         (left_by (cond t (accepted_answer d.control (length a)) (refused_answer (answer_refusal_of d w r run a) d.control d.phase)) d w r a)
-    by true e = completes (eqb-true (answer_refusal_of d w r run a) accepted e)
-    by false e = refused refl (eqb-false (answer_refusal_of d w r run a) accepted e)
+    by true e = completes (accepts_true (answer_refusal_of d w r run a) e)
+    by false e = refused refl (accepts_false (answer_refusal_of d w r run a) e)

@@ -1,6 +1,7 @@
 -- The engine's answer (document 01, 'Commands'). Assumes nothing.
-use Rattle.std.specs.Prelude.{ℕ, ◌≡◌, cond, List, length, eqb}
-use Rattle.refusal.specs.Refusal.{accepted}
+use Rattle.std.specs.Prelude.{ℕ, ◌≡◌, cond, List, length, Option, None}
+use Rattle.refusal.specs.Refusal.{accepts}
+use Rattle.refusal.specs.declared.Refusal.{Refusal}
 use Rattle.record.specs.Record.{with_parts, hash_progress}
 use Rattle.record.specs.declared.Control.{Control}
 use Rattle.record.specs.declared.Device.{Device}
@@ -17,14 +18,14 @@ use Rattle.call_outcome.specs.Result.{Result, result}
 use Rattle.call_respond.specs.declared.AnswerCycle.{AnswerCycle}
 
 -- "A refusal changes nothing"
-abbrev pub refused_answer : ℕ → Control → Phase → AnswerCycle
+abbrev pub refused_answer : Option Refusal → Control → Phase → AnswerCycle
 refused_answer n k p = record { refusal = n; control = k; phase = p; fifos = Keep }
 
 abbrev pub done : Effect → AnswerCycle
-done e = record { refusal = accepted; control = e.control; phase = e.phase; fifos = e.fifos }
+done e = record { refusal = None; control = e.control; phase = e.phase; fifos = e.fifos }
 
 -- k, p and h are the record's; w and r the FIFOs, run and a the answer's number and bytes
-abbrev pub refusal_for : Control → Phase → HashProgress → List ℕ → List ℕ → ℕ → List ℕ → ℕ
+abbrev pub refusal_for : Control → Phase → HashProgress → List ℕ → List ℕ → ℕ → List ℕ → Option Refusal
 refusal_for k p h w r run a = answer_refusal (shape_view k p h) (lengths_of w r) k.run run (length a)
 
 -- "Entering Completion .. An accepted engine answer does that." n is its length
@@ -34,7 +35,7 @@ accepted_answer k n = done (apply_command k (enter_completion n k.run))
 -- "2, 6, 3, 4 for engine answers"
 unfoldable pub answer_cycle : Control → Phase → HashProgress → List ℕ → List ℕ → ℕ → List ℕ → AnswerCycle
 answer_cycle k p h w r run a =
-    cond (eqb (refusal_for k p h w r run a) accepted)
+    cond (accepts (refusal_for k p h w r run a))
     (accepted_answer k (length a))
     (refused_answer (refusal_for k p h w r run a) k p)
 

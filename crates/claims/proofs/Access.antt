@@ -8,10 +8,10 @@ use Rattle.arbiter.specs.Rules.{keeps_command, aborts_command, next_owner, serve
 use Rattle.arbiter.specs.Agreement.{Agrees, holder}
 use Rattle.arbiter.specs.declared.Arbiter.{Arbiter}
 use Rattle.arbiter.specs.declared.Change.{Change}
-use Rattle.arbiter.specs.declared.Owner.{Owner}
-use Rattle.arbiter.specs.declared.Owner.TheVariants.{Nobody, Held}
+use Rattle.arbiter.specs.declared.Locality.{Locality}
+use Rattle.std.specs.Prelude.{Option, Some, None}
 use Rattle.arbiter.specs.declared.access.AccessCommand.{AccessCommand}
-use Rattle.arbiter.specs.declared.access.AccessCommand.TheVariants.{Nothing, RequestUse, ActiveLocality, Seize, BeenSeized}
+use Rattle.arbiter.specs.declared.access.AccessCommand.TheVariants.{RequestUse, ActiveLocality, Seize, BeenSeized}
 use Rattle.arbiter.proofs.Agreement.{command_event, event_command, highest_agrees}
 use Rattle.arbiter.proofs.Cases.{handover_aborts}
 use Rattle.arbiter_model.specs.Model as model
@@ -25,9 +25,9 @@ pub someone : {m : Model} {b : Arbiter} {q : Bool} → Agrees m b q → is_someb
 unfolding handover
 someone {m} {b} a = ap is_somebody (ap highest (fun_ext a.flags) ∙ highest_agrees 5 b.waiting) ∙ by (next_owner b.waiting)
   where
-    by : (o : Owner) → is_somebody (holder o) ≡ (hand_to o b).locality_change
-    by Nobody = refl
-    by (Held y) = refl
+    by : (o : Option Locality) → is_somebody (holder o) ≡ (hand_to o b).locality_change
+    by None = refl
+    by (Some y) = refl
 
 module _ {m : Model} {b : Arbiter} {q : Bool} (x : ℕ) (a : Agrees m b q) (h : ignores_page m x ≡ false) where
   abbrev somebody : Bool
@@ -37,9 +37,9 @@ module _ {m : Model} {b : Arbiter} {q : Bool} (x : ℕ) (a : Agrees m b q) (h : 
   abbrev Same : Bool → Bool → Change → Type 0
   Same u t z = (u ≡ z.abort) × (t ≡ z.locality_change)
 
-  asks : (w : Owner) → Same false false (request_from w b (locality x))
-  asks Nobody = (refl, refl)
-  asks (Held y) = on (eqb y.0 x)
+  asks : (w : Option Locality) → Same false false (request_from w b (locality x))
+  asks None = (refl, refl)
+  asks (Some y) = on (eqb y.0 x)
     where
       on : (t : Bool) → Same false false (cond t (keeps_command b) (keeps_command (queued b (locality x))))
       on true = (refl, refl)
@@ -48,19 +48,19 @@ module _ {m : Model} {b : Arbiter} {q : Bool} (x : ℕ) (a : Agrees m b q) (h : 
   abbrev released : Bool → Bool → Change
   released t u = cond t (handover b) (cond u (keeps_command (with_waiting b x false)) (keeps_command b))
 
-  releases : (w : Owner) (u : Bool) → Same (relinquishes model.active_locality (holder w) x || false) (relinquishes model.active_locality (holder w) x && somebody) (released (holds w (locality x)) u)
-  releases Nobody true = (refl, refl)
-  releases Nobody false = (refl, refl)
-  releases (Held y) u = on (eqb y.0 x) u
+  releases : (w : Option Locality) (u : Bool) → Same (relinquishes model.active_locality (holder w) x || false) (relinquishes model.active_locality (holder w) x && somebody) (released (holds w (locality x)) u)
+  releases None true = (refl, refl)
+  releases None false = (refl, refl)
+  releases (Some y) u = on (eqb y.0 x) u
     where
       on : (t u : Bool) → Same (t || false) (t && somebody) (released t u)
       on true u = (sym (handover_aborts b), someone a)
       on false true = (refl, refl)
       on false false = (refl, refl)
 
-  takes : (w : Owner) → Same (seizes model.seize (holder w) x) false (seize_from w b (locality x))
-  takes Nobody = (refl, refl)
-  takes (Held y) = on (ltb y.0 x)
+  takes : (w : Option Locality) → Same (seizes model.seize (holder w) x) false (seize_from w b (locality x))
+  takes None = (refl, refl)
+  takes (Some y) = on (ltb y.0 x)
     where
       on : (t : Bool) → Same t false (cond t (aborts_command (with_seized (serve b (locality x)) y.0 true)) (keeps_command b))
       on true = (refl, refl)
@@ -70,13 +70,13 @@ module _ {m : Model} {b : Arbiter} {q : Bool} (x : ℕ) (a : Agrees m b q) (h : 
   abbrev Told : Event → Change → Type 0
   Told e z = Same (aborts m e) (hands_over m e && somebody) z
 
-  by_command : (k : AccessCommand) → Told (command_event x k) (commanded k b (locality x))
+  by_command : (k : Option AccessCommand) → Told (command_event x k) (commanded k b (locality x))
   unfolding request release seize clear_seized
-  by_command Nothing = (refl, refl)
-  by_command RequestUse = rw h (asks b.active)
-  by_command ActiveLocality = rw (h, a.active) (releases b.active (waits b x))
-  by_command Seize = rw (h, a.active) (takes b.active)
-  by_command BeenSeized = rw h (refl, refl)
+  by_command None = (refl, refl)
+  by_command (Some RequestUse) = rw h (asks b.active)
+  by_command (Some ActiveLocality) = rw (h, a.active) (releases b.active (waits b x))
+  by_command (Some Seize) = rw (h, a.active) (takes b.active)
+  by_command (Some BeenSeized) = rw h (refl, refl)
 
   pub change_same : (v : ℕ) → Told (access_event x v) (write_access b (locality x) v)
   unfolding write_access

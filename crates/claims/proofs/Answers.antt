@@ -4,12 +4,16 @@ use mathlib.Core.Bool.{Bool, true, false, cond, ◌&&◌, ◌||◌, true≢false
 use mathlib.Core.List.{List, [], ◌∷◌, ◌++◌}
 use mathlib.Core.Logic.{◌⊎◌, inl, inr}
 use Prim.Native.Nat.{ℕ, ◌+◌, ◌-◌, ◌/◌, ◌≤◌, ◌<◌, ◌%◌, ◌^◌}
+use Rattle.std.specs.Prelude.{Option}
 use native.Mathlib.Omega.{arith}
 use lib.ListN.{length, get_or, take, replicate}
 use lib.Seq.{take-append_seam}
 use lib.Dec.{eqb, ltb, leb}
 use borrow.Author.Tests.{eqb-true, eq-eqb, le-leb, lt-ltb, ltb-false, eqb-false}
-use Rattle.refusal.specs.Refusal.{accepted}
+use Rattle.std.specs.Prelude.{Option, None}
+use Rattle.refusal.specs.Refusal.{accepted, number_of}
+use Rattle.refusal.specs.declared.Refusal.{Refusal}
+use Rattle.refusal.proofs.RefusalNumbers.{number_accepted, number_refused}
 use Rattle.claims.proofs.Residue.{Moved, turned}
 use Rattle.claims.specs.Demand3.{active_in}
 use Rattle.record.specs.declared.Phase.TheVariants.{Idle}
@@ -66,9 +70,9 @@ executing_is (answering a k) e = absurd (true≢false (sym e))
 
 module _ {c : ℕ} {m : Model} {q : Mail} (s : State) (h : Kept c m q s) where
   -- an accepted answer is one to the run in Execution
-  accepted_run : (n : ℕ) (a : List ℕ) → answer_refusal_of s.device s.write_fifo s.read_fifo n a ≡ accepted → (bs : List ℕ) × (q.box ≡ executing bs) × (q.run ≡ n)
+  accepted_run : (n : ℕ) (a : List ℕ) → answer_refusal_of s.device s.write_fifo s.read_fifo n a ≡ None → (bs : List ℕ) × (q.box ≡ executing bs) × (q.run ≡ n)
   accepted_run n a e =
-      let k : _ = both_true (executes s.device.phase) (eqb s.device.control.run n) (answer_then _ _ _ _ _ _ refl e).1 in
+      let k : _ = both_true (executes s.device.phase) (eqb s.device.control.run n) (answer_then _ _ _ _ _ e).1 in
       let b : _ = executing_is q.box (ap executes (sym h.boxed.phase) ∙ k.0) in
       (b.0, b.1, sym h.boxed.number ∙ eqb-true s.device.control.run n k.1)
 
@@ -102,9 +106,9 @@ all_told c m q t s (k ∷ ks) h d = all_told c (step m (happens k s)) _ _ (left 
 
 module _ {c : ℕ} {m : Model} {q : Mail} (s : State) (h : Kept c m q s) where
   -- an answer that is accepted has the number of the run and 10 to c bytes
-  accepts_fitting : (n : ℕ) (a : List ℕ) → answer_refusal_of s.device s.write_fifo s.read_fifo n a ≡ accepted → fits c q.run n a ≡ true
+  accepts_fitting : (n : ℕ) (a : List ℕ) → answer_refusal_of s.device s.write_fifo s.read_fifo n a ≡ None → fits c q.run n a ≡ true
   accepts_fitting n a e =
-      let k : _ = neither (ltb (length a) 10) (ltb (length s.write_fifo) (length a)) (answer_then _ _ _ _ _ _ refl e).2 in
+      let k : _ = neither (ltb (length a) 10) (ltb (length s.write_fifo) (length a)) (answer_then _ _ _ _ _ e).2 in
       let u : length a ≤ c = omega (arith, write_length h.boxed, ltb-false (length s.write_fifo) (length a) k.1) in
       rw (eq-eqb q.run n (accepted_run s h n a e).2, le-leb 10 (length a) (ltb-false (length a) 10 k.0), le-leb (length a) c u) refl
 
@@ -238,7 +242,7 @@ module _ {a : List ℕ} {j : ℕ} where
         goes_if : is_tpm_go v ≡ true → (b : Mailbox) → may_go c b ≡ true → goes c m b o v ≡ true
         goes_if i b f = rw (g, i, f) refl
 
-        by : {r g t : Bool} {k : StsCommand} → StsCase r g t k → is_tpm_go v ≡ g
+        by : {r g t : Bool} {k : Option StsCommand} → StsCase r g t k → is_tpm_go v ≡ g
             → (cond r (mail (after_command_ready q.box) q.run) (cond g (after_tpm_go c q.box q.run) (cond t (mail (after_retry q.box) q.run) q))).box ≡ answering a j
             → Comes c m q.box (write o v) accepted a
         by orders.readies i e = ready_comes q.box e
@@ -271,8 +275,8 @@ call_comes c m q (responds {run = r} i) e = inr (inl (r, ap (respond r) (this_on
 
 module _ {c : ℕ} {m : Model} {q : Mail} (s : State) (h : Kept c m q s) (p : Placed s.device) where
   -- a bus cycle of the five pages is refused as nothing but 7
-  bus_zero : (o : ℕ) → o ≤ 0x4fff → bus_refusal_of s.device s.write_fifo s.read_fifo o ≡ accepted
-  bus_zero o l = bus_value s h p o ∙ rw (le-leb o 0x4fff l) refl
+  bus_zero : (o : ℕ) → o ≤ 0x4fff → bus_refusal_of s.device s.write_fifo s.read_fifo o ≡ None
+  bus_zero o l = number_accepted _ (bus_value s h p o ∙ rw (le-leb o 0x4fff l) refl)
 
   -- who is active in the book holds the record
   holds_is : (o : ℕ) {u : Bool} → is_active m.active (o / 0x1000) ≡ u → holds (owner s.device) (page_at o) ≡ u
@@ -360,14 +364,14 @@ module _ {c : ℕ} {m : Model} {q : Mail} (s : State) (h : Kept c m q s) (p : Pl
   shown : (t : Trail) (bs : List ℕ) → q.box ≡ executing bs → Taken bs t.sent → (called window s).answer ≡ record { refusal = 0; value = bytes (take (size_of t.sent) t.sent) }
   shown t bs e k = by (window_case s.device s.write_fifo s.read_fifo) z
     where
-      z : lent_refusal_of s.device s.write_fifo s.read_fifo ≡ accepted
-      z = (works s h p).refusals window
+      z : lent_refusal_of s.device s.write_fifo s.read_fifo ≡ None
+      z = number_accepted _ ((works s h p).refusals window)
 
       command : shown_by (query.span_in s.device.phase) s.write_fifo s.read_fifo ≡ take (size_of t.sent) t.sent
       command = rw (h.boxed.phase, h.boxed.write_fifo, e) (let n : length bs - 0 ≡ length bs = omega arith in rw n (take-append_seam bs (replicate (c - length bs) 0) ∙ k.command))
 
-      by : {n : ℕ} {x : Span} → WindowCase s.device s.write_fifo s.read_fifo n x → n ≡ accepted
-          → ◌≡◌ {A = Answer} (record { refusal = n; value = bytes (shown_by x s.write_fifo s.read_fifo) }) (record { refusal = 0; value = bytes (take (size_of t.sent) t.sent) })
+      by : {n : Option Refusal} {x : Span} → WindowCase s.device s.write_fifo s.read_fifo n x → n ≡ None
+          → ◌≡◌ {A = Answer} (record { refusal = number_of n; value = bytes (shown_by x s.write_fifo s.read_fifo) }) (record { refusal = 0; value = bytes (take (size_of t.sent) t.sent) })
       by (asking.refused f) z = absurd (f z)
       by (asking.shows g) z = rw (z, command) refl
 
@@ -399,8 +403,8 @@ module _ {c : ℕ} {m : Model} {q : Mail} (s : State) (h : Kept c m q s) (p : Pl
       accepts_it : (n : ℕ) (a : List ℕ) → refusal_of (respond n a) s ≡ accepted → (bs : List ℕ) × (q.box ≡ executing bs) × (q.run ≡ n)
       accepts_it n a z = by (respond_case s.device s.write_fifo s.read_fifo n a) z
         where
-          by : {u : Result} → RespondCase s.device s.write_fifo s.read_fifo n a u → u.refusal ≡ accepted → (bs : List ℕ) × (q.box ≡ executing bs) × (q.run ≡ n)
-          by (engine.refused e f) z = absurd (f z)
+          by : {u : Result} → RespondCase s.device s.write_fifo s.read_fifo n a u → number_of u.refusal ≡ accepted → (bs : List ℕ) × (q.box ≡ executing bs) × (q.run ≡ n)
+          by (engine.refused {n = n} e f) z = absurd (number_refused n f z)
           by (engine.completes e) z = accepted_run s h n a e
 
 pub owned : OwnedClaim

@@ -8,9 +8,11 @@ use lib.ListN.{length, take, drop}
 use lib.Seq.{take-length}
 use Rattle.std.specs.Borrow.{Bor, MutBor}
 use contract.Lifetimes.{Lfts}
+use Rattle.refusal.specs.Refusal.{number_of}
 use Rattle.pcr.specs.Permission as table
 use Rattle.pcr.specs.Permission.{permission}
 use Rattle.record.specs.declared.Device.{Device}
+use Rattle.call_admission.specs.Refusals.{lent_refusal_of}
 use Rattle.call_outcome.specs.declared.Outcome.{Outcome}
 use Rattle.call_outcome.specs.Result.{Result, Leaves}
 use Rattle.call_power.specs.Power as power
@@ -19,13 +21,14 @@ use Rattle.call_respond.specs.Respond as engine
 use Rattle.call_query.specs.Query as query
 use Rattle.call_query.specs.Query.{of_two}
 use Rattle.call_query.specs.declared.Span.{Span}
-use Rattle.claims.specs.Calls.{Call, power_on, reset, read, write, respond, pcr_value, interrupt_line, may_reset, may_extend, window, State, state, nothing, Answer, Called, changes, gives, called, refusal_of, left, after, heard, OverLists, Lent, lent_after, lent_heard, OverLent}
+use Rattle.call_query.specs.declared.WindowOutcome.{WindowOutcome}
+use Rattle.claims.specs.Calls.{Call, power_on, reset, read, write, respond, pcr_value, interrupt_line, may_reset, may_extend, window, State, state, nothing, Answer, Called, changes, gives, called, left, after, heard, OverLists, Lent, lent_after, lent_heard, OverLent}
 use Rattle.claims.proofs.Steps.{Step, powers_on, resets, reads, writes, responds, asks_pcr, asks_line, asks_reset, asks_extend, looks, Runs, none, more, OnContracts, LentRuns, none_lent, more_lent, OnLentContracts}
 
 -- ---- a step is what the definitions say
 
 -- an outcome with what is left in the FIFOs is the result
-outcome_left : (o : Outcome) (w r : List ℕ) (t : Result) → Leaves o w r t → changes t ≡ gives o.refusal nothing (state o.device w r)
+outcome_left : (o : Outcome) (w r : List ℕ) (t : Result) → Leaves o w r t → changes t ≡ gives (number_of o.refusal) nothing (state o.device w r)
 outcome_left o w r t p = rw (p.refusal, p.device, p.write_fifo, p.read_fifo) refl
 
 now_two : (b : Bool) (w r : Bor (List ℕ)) → (of_two b w r).now ≡ cond b r.now w.now
@@ -42,7 +45,7 @@ step_called (asks_pcr κs s i o p) = rw p refl
 step_called (asks_line κs s l p) = rw p refl
 step_called (asks_reset κs s i x o p) = rw p refl
 step_called (asks_extend κs s i x o p) = rw p refl
-step_called (looks κs d w r t n n' p) = rw (p.0.bytes, p.1, now_two (query.window_span d w.now r.now).reading w r) refl
+step_called (looks κs d w r o p) = rw (p.0.bytes, p.1, now_two (query.window_span d w.now r.now).reading w r) refl
 
 -- ---- and there is one for every call
 
@@ -67,6 +70,9 @@ shown p f = record {
 }
 
 -- no lifetime matters to what a call says
+abbrev one : Lfts 1
+one = ([], tt)
+
 abbrev two : Lfts 2
 two = ([], ([], tt))
 
@@ -94,7 +100,8 @@ called_step (may_extend i x) s = asks_extend tt s i x (permission table.may_exte
 called_step window s =
     let p : Span = query.window_span s.device s.write_fifo s.read_fifo in
     let t : Bor (List ℕ) = shown p (of_two p.reading (at s.write_fifo) (at s.read_fifo)) in
-    let k : _ = looks two s.device (at s.write_fifo) (at s.read_fifo) t (mut 0) (mut (refusal_of window s)) (record { bytes = refl; place = refl }, refl) in
+    let o : WindowOutcome = record { refusal = lent_refusal_of s.device s.write_fifo s.read_fifo; bytes = t } in
+    let k : _ = looks one s.device (at s.write_fifo) (at s.read_fifo) o (record { bytes = refl; place = refl }, refl) in
     rw (now_two p.reading (at s.write_fifo) (at s.read_fifo)) at k
 
 -- ---- lists

@@ -5,7 +5,9 @@ use mathlib.Core.Bool.{Bool, true, false, true≢false}
 use mathlib.Core.List.{List}
 use Prim.Native.Nat.{ℕ, zero, suc}
 use lib.ListN.{length}
-use Rattle.refusal.specs.Refusal.{accepted}
+use Rattle.std.specs.Prelude.{None}
+use Rattle.refusal.specs.Refusal.{accepted, number_of}
+use Rattle.refusal.proofs.RefusalNumbers.{number_refused}
 use Rattle.reg_layout.specs.Offsets.{in_four, place_of, data_fifo}
 use Rattle.arbiter.specs.State.{holds}
 use Rattle.record.specs.Record.{with_phase}
@@ -33,8 +35,8 @@ pub data CallCase (s : State) : Call → ℕ → State → Type 0 where
   -- refused, or a question: it leaves all as it was, and is nothing to a book
   same : {c : Call} {n : ℕ} → is_power_on c ≡ false → entry_of c n ≡ none → CallCase s c n s
   powers : {established : Bool} {identity : List ℕ} {t : Result} → PowerCase established identity s.write_fifo s.read_fifo t
-      → CallCase s (power_on established identity) t.refusal (left_by t)
-  resets : lent_refusal_of s.device s.write_fifo s.read_fifo ≡ accepted
+      → CallCase s (power_on established identity) (number_of t.refusal) (left_by t)
+  resets : lent_refusal_of s.device s.write_fifo s.read_fifo ≡ None
       → CallCase s reset accepted (state (reset_device s.device) (clear_fifo s.write_fifo) (clear_fifo s.read_fifo))
   -- a read that moves nothing
   looks : {o : ℕ} → (in_four data_fifo (place_of o) ≡ true → holds (owner s.device) (page_at o) ≡ false) → CallCase s (read o) accepted s
@@ -43,7 +45,7 @@ pub data CallCase (s : State) : Call → ℕ → State → Type 0 where
       → CallCase s (read o) accepted (state (with_phase s.device (after_read s.device.phase)) s.write_fifo s.read_fifo)
   writes : {o v : ℕ} {d : Device} {w r : List ℕ} → Writes s.device s.write_fifo s.read_fifo o v d w r
       → CallCase s (write o v) accepted (state d w r)
-  responds : {run : ℕ} {a : List ℕ} → answer_refusal_of s.device s.write_fifo s.read_fifo run a ≡ accepted
+  responds : {run : ℕ} {a : List ℕ} → answer_refusal_of s.device s.write_fifo s.read_fifo run a ≡ None
       → CallCase s (respond run a) accepted (state (completed_device s.device (length a)) (clear_fifo s.write_fifo) (put_answer a s.read_fifo))
 
 -- a call that enters nothing when it is refused
@@ -70,27 +72,27 @@ pub call_case : (c : Call) (s : State) → CallCase s c (refusal_of c s) (left c
 call_case (power_on e i) s = powers (power_case e i s.write_fifo s.read_fifo)
 call_case reset s = by _ (reset_case s.device s.write_fifo s.read_fifo)
   where
-    by : (t : Result) → ResetCase s.device s.write_fifo s.read_fifo t → CallCase s reset t.refusal (left_by t)
-    by t (power.refused {n = n} e f) = same refl (refused_reset n f)
+    by : (t : Result) → ResetCase s.device s.write_fifo s.read_fifo t → CallCase s reset (number_of t.refusal) (left_by t)
+    by t (power.refused {n = n} e f) = same refl (refused_reset (number_of n) (number_refused n f))
     by t (power.anew e) = resets e
 call_case (read o) s = by _ (read_case s.device s.write_fifo s.read_fifo o)
   where
     by : (t : ReadOutcome) → ReadCase s.device s.write_fifo s.read_fifo o t
-        → CallCase s (read o) t.refusal (state t.device s.write_fifo s.read_fifo)
-    by t (bus.refused {n = n} e f) = same refl (refused_read_lem o n f)
+        → CallCase s (read o) (number_of t.refusal) (state t.device s.write_fifo s.read_fifo)
+    by t (bus.refused {n = n} e f) = same refl (refused_read_lem o (number_of n) (number_refused n f))
     by t (bus.stays e i b) = looks (λ j. absurd (true≢false (sym j ∙ i)))
     by t (bus.moves e i h) = reads i h
     by t (bus.misses e i h) = looks (λ j. h)
 call_case (write o v) s = by _ (write_case s.device s.write_fifo s.read_fifo o v)
   where
-    by : (t : Result) → WriteCase s.device s.write_fifo s.read_fifo o v t → CallCase s (write o v) t.refusal (left_by t)
-    by t (bus.refused {n = n} e f) = same refl (refused_write_lem o v n f)
+    by : (t : Result) → WriteCase s.device s.write_fifo s.read_fifo o v t → CallCase s (write o v) (number_of t.refusal) (left_by t)
+    by t (bus.refused {n = n} e f) = same refl (refused_write_lem o v (number_of n) (number_refused n f))
     by t (bus.overlong e h i l) = same refl refl
     by t (bus.accepts e k) = writes k
 call_case (respond run a) s = by _ (respond_case s.device s.write_fifo s.read_fifo run a)
   where
-    by : (t : Result) → RespondCase s.device s.write_fifo s.read_fifo run a t → CallCase s (respond run a) t.refusal (left_by t)
-    by t (engine.refused {n = n} e f) = same refl (refused_respond run a n f)
+    by : (t : Result) → RespondCase s.device s.write_fifo s.read_fifo run a t → CallCase s (respond run a) (number_of t.refusal) (left_by t)
+    by t (engine.refused {n = n} e f) = same refl (refused_respond run a (number_of n) (number_refused n f))
     by t (engine.completes e) = responds e
 call_case (pcr_value i) s = same refl refl
 call_case interrupt_line s = same refl refl

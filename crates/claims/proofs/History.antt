@@ -9,8 +9,8 @@ use lib.Seq.{ext_get_or}
 use lib.Dec.{eqb}
 use Rattle.reg_layout.specs.Offsets.{in_four, hash_start, hash_end}
 use Rattle.arbiter.specs.Agreement.{holder}
-use Rattle.arbiter.specs.declared.Owner.{Owner}
-use Rattle.arbiter.specs.declared.Owner.TheVariants.{Nobody, Held}
+use Rattle.arbiter.specs.declared.Locality.{Locality}
+use Rattle.std.specs.Prelude.{Option, Some, None}
 use Rattle.arbiter_model.specs.Model.{Model, step, fresh}
 use Rattle.arbiter_model.specs.Waits.{run}
 use Rattle.sha1_block.specs.Sha1.{sha1}
@@ -146,9 +146,9 @@ module _ (c : ℕ) (m : Model) (q : Mail) (g : Signals) (bs : List ℕ) (w : ℕ
   }
 
   -- the state is what the books make up
-  owner_is : (o : Owner) → owner_of (holder o) ≡ o
-  owner_is Nobody = refl
-  owner_is (Held y) = refl
+  owner_is : (o : Option Locality) → owner_of (holder o) ≡ o
+  owner_is None = refl
+  owner_is (Some y) = refl
 
   active_is : owner s.device ≡ owner_of m.active
   active_is = sym (ap owner_of h.kept.book.active ∙ owner_is (owner s.device))

@@ -16,8 +16,8 @@ use Rattle.arbiter_model.proofs.Invariant.{Sound, sound_fresh}
 use Rattle.arbiter.specs.Rules as rule
 use Rattle.arbiter.specs.Agreement.{Agrees, holder}
 use Rattle.arbiter.specs.declared.Arbiter.{Arbiter}
-use Rattle.arbiter.specs.declared.Owner.{Owner}
-use Rattle.arbiter.specs.declared.Owner.TheVariants.{Nobody, Held}
+use Rattle.arbiter.specs.declared.Locality.{Locality}
+use Rattle.std.specs.Prelude.{Option, Some, None}
 use Rattle.sha1_message.specs.declared.Stream.{Stream}
 use Rattle.sha1_block.specs.Sha1.{sha1}
 use Rattle.sha1_message.specs.Stream.{nothing as no_stream, begin, join, finish}
@@ -26,7 +26,8 @@ use Rattle.pcr.specs.Bank as bank
 use Rattle.pcr.specs.Bank.{pcrs, pcr, all_bytes, value_at, replaced, with_dynamic, launched}
 use Rattle.pcr.specs.declared.Pcr.{Pcr}
 use Rattle.pcr.proofs.BankAt.{launched_at, replaced_at}
-use Rattle.refusal.specs.Refusal.{accepted}
+use Rattle.refusal.specs.Refusal.{accepted, number_of}
+use Rattle.refusal.proofs.RefusalNumbers.{number_refused}
 use Rattle.record.specs.Record.{fresh_device}
 use Rattle.record.specs.declared.Device.{Device}
 use Rattle.record.specs.declared.Launch.{Launch}
@@ -60,9 +61,9 @@ apart o i j =
 pub counts_same : {m : Model} {s : Arbiter} {o : Bool} → Agrees m s o → start_counts m.active ≡ rule.start_counts s.active
 counts_same {m} {s} a = ap start_counts a.active ∙ by s.active
   where
-    by : (w : Owner) → start_counts (holder w) ≡ rule.start_counts w
-    by Nobody = refl
-    by (Held y) = refl
+    by : (w : Option Locality) → start_counts (holder w) ≡ rule.start_counts w
+    by None = refl
+    by (Some y) = refl
 
 -- a page that is ignored but for hash data has a sequence open
 pub sequence_then : (o : ℕ) (sequence : Bool) → hash_page o sequence ≡ true → sequence ≡ true
@@ -249,9 +250,9 @@ accepted_write_lem : (s : State) (o v : ℕ) → refusal_of (write o v) s ≡ ac
     → Writes s.device s.write_fifo s.read_fifo o v (left (write o v) s).device (left (write o v) s).write_fifo (left (write o v) s).read_fifo
 accepted_write_lem s o v e = by _ (write_case s.device s.write_fifo s.read_fifo o v) e
   where
-    by : (t : Result) → WriteCase s.device s.write_fifo s.read_fifo o v t → t.refusal ≡ accepted
+    by : (t : Result) → WriteCase s.device s.write_fifo s.read_fifo o v t → number_of t.refusal ≡ accepted
         → Writes s.device s.write_fifo s.read_fifo o v t.device t.write_fifo t.read_fifo
-    by t (bus.refused e f) q = absurd (f q)
+    by t (bus.refused {n = n} e f) q = absurd (number_refused n f q)
     by t (bus.overlong e h i l) q = absurd (omega arith)
     by t (bus.accepts e k) q = k
 

@@ -7,7 +7,8 @@ use native.Mathlib.Omega.{arith}
 use lib.ListN.{length, replicate}
 use lib.Dec.{ltb}
 use borrow.Author.Tests.{eq-eqb, ne_eqb, ltb-true, ltb-false, le-leb}
-use Rattle.refusal.specs.Refusal.{accepted}
+use Rattle.std.specs.Prelude.{None}
+use Rattle.refusal.specs.Refusal.{accepted, number_of}
 use Rattle.reg_layout.specs.Offsets.{in_four, page_of, place_of, last_offset, access, int_enable, int_status, sts, data_fifo, hash_start, hash_end}
 use Rattle.reg_layout.proofs.Within.{not_within, within_then}
 use Rattle.bits.proofs.TestLaws.{neither}
@@ -16,8 +17,8 @@ use Rattle.arbiter.specs.Rules as rule
 use Rattle.arbiter.specs.Rules.{write_access}
 use Rattle.arbiter.specs.Agreement.{Agrees, holder}
 use Rattle.arbiter.specs.declared.Arbiter.{Arbiter}
-use Rattle.arbiter.specs.declared.Owner.{Owner}
-use Rattle.arbiter.specs.declared.Owner.TheVariants.{Nobody, Held}
+use Rattle.arbiter.specs.declared.Locality.{Locality}
+use Rattle.std.specs.Prelude.{Option, Some, None}
 use Rattle.arbiter_model.specs.Model as model
 use Rattle.arbiter_model.specs.Model.{Model, Holder, access_event, is_access, write_event, ignores_page, step, fresh}
 use Rattle.arbiter_model.specs.Waits.{run}
@@ -62,9 +63,9 @@ use Rattle.claims.proofs.Launch.{counts_same}
 pub active_same : {m : Model} {b : Arbiter} {q : Bool} (o : ℕ) → Agrees m b q → is_active m.active (page_of o) ≡ holds b.active (page_at o)
 active_same {b = b} o a = ap (λ (h : Holder). is_active h (page_of o)) a.active ∙ by b.active
   where
-    by : (w : Owner) → is_active (holder w) (page_of o) ≡ holds w (page_at o)
-    by Nobody = refl
-    by (Held y) = refl
+    by : (w : Option Locality) → is_active (holder w) (page_of o) ≡ holds w (page_at o)
+    by None = refl
+    by (Some y) = refl
 
 -- a test joined with one that fails
 and_false : (t : Bool) {u : Bool} → u ≡ false → (t && u) ≡ false
@@ -260,10 +261,10 @@ module _ (c : ℕ) (l : fifo_least ≤ c) (g : c ≤ fifo_greatest) (m : Model) 
   fetched_is o i h = rw (active_same o a ∙ h, i) refl
 
   -- an accepted answer has 10 to c bytes
-  answer_boxed : (run : ℕ) (x : List ℕ) → answer_refusal_of s.device s.write_fifo s.read_fifo run x ≡ accepted
+  answer_boxed : (run : ℕ) (x : List ℕ) → answer_refusal_of s.device s.write_fifo s.read_fifo run x ≡ None
       → Boxed c (mail (answering x 0) q.run) (Completion (length x) 0) s.device.control.run (clear_fifo s.write_fifo) (put_answer x s.read_fifo)
   answer_boxed run x e =
-      let k : _ = neither (ltb (length x) 10) (ltb (length s.write_fifo) (length x)) (answer_then _ _ _ _ _ _ refl e).2 in
+      let k : _ = neither (ltb (length x) 10) (ltb (length s.write_fifo) (length x)) (answer_then _ _ _ _ _ e).2 in
       let t : Boxed c (mail idle 0) Idle 0 (clear_fifo s.write_fifo) (clear_fifo s.read_fifo) = cleared b 0 in
       record {
         phase = refl;
@@ -332,7 +333,7 @@ first_kept s established identity z = by (power_case established identity s.writ
           fits = tt;
         }
 
-    by : {t : Result} → PowerCase established identity s.write_fifo s.read_fifo t → t.refusal ≡ accepted → Kept c fresh (mail idle 0) (left_by t)
+    by : {t : Result} → PowerCase established identity s.write_fifo s.read_fifo t → number_of t.refusal ≡ accepted → Kept c fresh (mail idle 0) (left_by t)
     by (power.refused e) z = absurd (omega arith)
     by (power.powered e) z = record {
       least = (allowed _ e).least;

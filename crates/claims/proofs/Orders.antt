@@ -3,6 +3,7 @@ use mathlib.Core.Path.{◌≡◌, refl, sym, ap, ◌∙◌}
 use mathlib.Core.Bool.{Bool, true, false, cond, ◌&&◌, ◌||◌, true≢false}
 use mathlib.Core.List.{List, [], ◌∷◌, ◌++◌}
 use Prim.Native.Nat.{ℕ, zero, suc, ◌+◌, ◌%◌, ◌^◌, ◌≤◌, ◌<◌}
+use Rattle.std.specs.Prelude.{Option, Some, None}
 use native.Mathlib.Omega.{arith}
 use lib.ListN.{length, length-append}
 use lib.Dec.{eqb, leb, ltb}
@@ -19,17 +20,17 @@ use Rattle.reg_sts_write.specs.Completion.{without_cause, ignored, enter_complet
 use Rattle.reg_sts_write.specs.Sts.{sts_command, command_ready, next_run, tpm_go_after, tpm_go, response_retry, commanded_by, store_after, write_data_fifo}
 use Rattle.reg_sts_write.specs.declared.Commanded.{Commanded}
 use Rattle.reg_sts_write.specs.declared.sts.StsCommand.{StsCommand}
-use Rattle.reg_sts_write.specs.declared.sts.StsCommand.TheVariants.{Nothing, CommandReady, TpmGo, ResponseRetry}
+use Rattle.reg_sts_write.specs.declared.sts.StsCommand.TheVariants.{CommandReady, TpmGo, ResponseRetry}
 use Rattle.claims.specs.Mailbox.{Mailbox, idle, ready, receiving, executing, answering, Mail, mail, size_of, more_expected, after_command_ready, bad_size_answer, go_ahead, after_tpm_go, after_retry, is_command_ready, is_tpm_go, is_response_retry, after_sts, after_byte, phase_of, command_of, answer_of, padded}
 use Rattle.claims.proofs.Padded.{length_padded, clear_padded, put_padded, set_padded, size_padded}
 
 -- ---- which command bit a byte is: 40h, go, retry, and the front's word for it
 
-pub data StsCase : Bool → Bool → Bool → StsCommand → Type 0 where
-  readies : StsCase true false false CommandReady
-  goes : StsCase false true false TpmGo
-  retries : StsCase false false true ResponseRetry
-  nothing : StsCase false false false Nothing
+pub data StsCase : Bool → Bool → Bool → Option StsCommand → Type 0 where
+  readies : StsCase true false false (Some CommandReady)
+  goes : StsCase false true false (Some TpmGo)
+  retries : StsCase false false true (Some ResponseRetry)
+  nothing : StsCase false false false None
 
 abbrev bit_of : Bool → ℕ
 bit_of true = 1
@@ -44,7 +45,7 @@ bit_is (suc (suc n)) l = absurd (omega (arith, l))
 abbrev Decoded : ℕ → ℕ → ℕ → Type 0
 Decoded a b c =
     StsCase (eqb (a + b + c) 1 && eqb a 1) (eqb (a + b + c) 1 && eqb b 1) (eqb (a + b + c) 1 && eqb c 1)
-    (cond (eqb (a + b + c) 1) (cond (eqb a 1) CommandReady (cond (eqb b 1) TpmGo ResponseRetry)) Nothing)
+    (cond (eqb (a + b + c) 1) (cond (eqb a 1) (Some CommandReady) (cond (eqb b 1) (Some TpmGo) (Some ResponseRetry))) None)
 
 decoded : (p q r : Bool) → Decoded (bit_of p) (bit_of q) (bit_of r)
 decoded true true true = nothing
@@ -182,7 +183,7 @@ module _ (c : ℕ) (l : fifo_least ≤ c) where
   pub order_leaves : (b : Mailbox) (n v : ℕ) → Fits c b → Leaves (after_sts c v (mail b n)) (commanded_by (sts_command v) (phase_of b) n (size_in b) (length_in b)) v b
   order_leaves b n v f = by (sts_case v)
     where
-      by : {r g t : Bool} {k : StsCommand} → StsCase r g t k
+      by : {r g t : Bool} {k : Option StsCommand} → StsCase r g t k
           → Leaves (cond r (mail (after_command_ready b) n) (cond g (after_tpm_go c b n) (cond t (mail (after_retry b) n) (mail b n)))) (commanded_by k (phase_of b) n (size_in b) (length_in b)) v b
       by readies = ready_leaves b n v f
       by goes = go_leaves b n v f

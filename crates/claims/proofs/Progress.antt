@@ -9,7 +9,10 @@ use native.Mathlib.Omega.{arith}
 use lib.ListN.{length, get_or}
 use lib.Dec.{eqb, leb, ltb}
 use borrow.Author.Tests.{eqb-true, eqb-false, eq-eqb, leb-true, leb-false, le-leb, lt-leb, lt-ltb, le-ltb}
-use Rattle.refusal.specs.Refusal.{accepted}
+use Rattle.std.specs.Prelude.{None, Some}
+use Rattle.refusal.specs.Refusal.{accepted, number_of, accepts}
+use Rattle.refusal.specs.declared.Refusal.TheVariants.{Offset, FifoLength, Run, AnswerLength, Question}
+use Rattle.refusal.proofs.RefusalNumbers.{number_refused, accepts_true, some_refused}
 use Rattle.reg_layout.specs.Offsets.{in_four, page_of, last_offset, hash_locality, hash_data, hash_start, hash_end}
 use Rattle.reg_layout.proofs.Within.{within_then, not_within}
 use Rattle.arbiter.specs.State.{localities, holds}
@@ -18,8 +21,7 @@ use Rattle.arbiter.specs.Agreement.{Agrees, holder}
 use Rattle.arbiter.specs.declared.Arbiter.{Arbiter}
 use Rattle.arbiter.specs.declared.Change.{Change}
 use Rattle.arbiter.specs.declared.Locality.{Locality}
-use Rattle.arbiter.specs.declared.Owner.{Owner}
-use Rattle.arbiter.specs.declared.Owner.TheVariants.{Nobody, Held}
+use Rattle.std.specs.Prelude.{Option, Some, None}
 use Rattle.arbiter.proofs.Cases as rule
 use Rattle.arbiter.proofs.Cases.{AccessCase, access_case}
 use Rattle.arbiter_model.specs.Model.{Model, held, fresh, step}
@@ -78,10 +80,10 @@ arbitrates : {m : Model} (b : Arbiter) (q : Bool) → Agrees m b q → Sound m �
 arbitrates {m} b q a h = by b.active refl
   where
     -- nobody waits
-    none : b.active ≡ Nobody → (y : ℕ) → y < 5 → get_or b.waiting y false ≡ false
+    none : b.active ≡ None → (y : ℕ) → y < 5 → get_or b.waiting y false ≡ false
     none e y l = sym (a.flags y) ∙ h.free_unasked (a.active ∙ ap holder e) y l
 
-    closed : b.active ≡ Nobody → (t : Bool) → q ≡ t → not t ≡ true
+    closed : b.active ≡ None → (t : Bool) → q ≡ t → not t ≡ true
     closed e true i = absurd (not_free (sym (h.open_held_by4 (a.sequence_open ∙ i)) ∙ a.active ∙ ap holder e))
     closed e false i = refl
 
@@ -89,14 +91,14 @@ arbitrates {m} b q a h = by b.active refl
     fourth y e true i = eq-eqb y 4 (held_same (sym e ∙ h.open_held_by4 (a.sequence_open ∙ i)))
     fourth y e false i = refl
 
-    by : (o : Owner) → b.active ≡ o → Arbitrates b q
-    by Nobody e = record {
+    by : (o : Option Locality) → b.active ≡ o → Arbitrates b q
+    by None e = record {
       known = rw e refl;
       free = rw e (rw (none e 0 (omega arith), none e 1 (omega arith), none e 2 (omega arith), none e 3 (omega arith), none e 4 (omega arith)) refl);
       own = rw e refl;
       opened = rw e (closed e q refl);
     }
-    by (Held y) e =
+    by (Some y) e =
         let i : m.active ≡ held y.0 = a.active ∙ ap holder e in
         record {
           known = rw e (lt-ltb y.0 5 (h.active_known y.0 i));
@@ -112,54 +114,54 @@ pub record Placed (d : Device) : Type 0 where
   pub phase : phase_placed d.phase (owner d) d.launch.sequence ≡ true
   pub hash : hash_counted d.launch.sequence d.launch.stream.count ≡ true
 
-idle_placed : (o : Owner) (q : Bool) → phase_placed Idle o q ≡ true
-idle_placed Nobody q = refl
-idle_placed (Held y) q = refl
+idle_placed : (o : Option Locality) (q : Bool) → phase_placed Idle o q ≡ true
+idle_placed None q = refl
+idle_placed (Some y) q = refl
 
 pub or_true : (t : Bool) → (t || true) ≡ true
 or_true true = refl
 or_true false = refl
 
 -- who is active may be in any phase while no sequence is open
-active_placed : (p : Phase) (o : Owner) (x : Locality) (q : Bool) → holds o x ≡ true → q ≡ false → phase_placed p o q ≡ true
-active_placed p Nobody x q h e = absurd (true≢false (sym h))
-active_placed p (Held y) x q h e = rw e (or_true (shape.idle p))
+active_placed : (p : Phase) (o : Option Locality) (x : Locality) (q : Bool) → holds o x ≡ true → q ≡ false → phase_placed p o q ≡ true
+active_placed p None x q h e = absurd (true≢false (sym h))
+active_placed p (Some y) x q h e = rw e (or_true (shape.idle p))
 
 -- the active locality commands, so no sequence is open
-no_sequence : (o : ℕ) (w : Owner) (q : Bool) → sequence_placed q w ≡ true → hash_page o q ≡ false → holds w (page_at o) ≡ true → q ≡ false
-no_sequence o Nobody q i h e = absurd (true≢false (sym e))
-no_sequence o (Held y) true i h e = absurd (true≢false (sym (eq-eqb (page_of o) 4 (sym (eqb-true y.0 (page_of o) e) ∙ eqb-true y.0 4 i)) ∙ h))
-no_sequence o (Held y) false i h e = refl
+no_sequence : (o : ℕ) (w : Option Locality) (q : Bool) → sequence_placed q w ≡ true → hash_page o q ≡ false → holds w (page_at o) ≡ true → q ≡ false
+no_sequence o None q i h e = absurd (true≢false (sym e))
+no_sequence o (Some y) true i h e = absurd (true≢false (sym (eq-eqb (page_of o) 4 (sym (eqb-true y.0 (page_of o) e) ∙ eqb-true y.0 4 i)) ∙ h))
+no_sequence o (Some y) false i h e = refl
 
 -- a device that was free
-taken_placed : (p : Phase) (x : Locality) (q : Bool) → phase_placed p Nobody q ≡ true → phase_placed p (Held x) q ≡ true
+taken_placed : (p : Phase) (x : Locality) (q : Bool) → phase_placed p None q ≡ true → phase_placed p (Some x) q ≡ true
 taken_placed p x q e = rw e refl
 
 joined_counted : (l : Launch) (v : ℕ) → l.sequence ≡ true → l.stream.count < hash_limit → hash_counted l.sequence (join l.stream v).count ≡ true
 unfolding join
 joined_counted l v e m = rw (e, le-leb (l.stream.count + 1) hash_limit (omega arith)) refl
 
-read_placed : (p : Phase) (o : Owner) (q : Bool) → phase_placed p o q ≡ true → phase_placed (after_read p) o q ≡ true
+read_placed : (p : Phase) (o : Option Locality) (q : Bool) → phase_placed p o q ≡ true → phase_placed (after_read p) o q ≡ true
 read_placed Idle o q e = e
 read_placed Ready o q e = e
 read_placed (Reception n) o q e = e
 read_placed (Execution n) o q e = e
 read_placed (Completion n k) o q e = by (ltb k n)
   where
-    on : (o : Owner) → phase_placed (Completion n k) o q ≡ true → phase_placed (Completion n (k + 1)) o q ≡ true
-    on Nobody e = e
-    on (Held y) e = e
+    on : (o : Option Locality) → phase_placed (Completion n k) o q ≡ true → phase_placed (Completion n (k + 1)) o q ≡ true
+    on None e = e
+    on (Some y) e = e
 
     by : (t : Bool) → phase_placed (cond t (Completion n (k + 1)) (Completion n k)) o q ≡ true
     by true = on o e
     by false = e
 
-answer_placed : (p : Phase) (n : ℕ) (o : Owner) (q : Bool) → executes p ≡ true → phase_placed p o q ≡ true → phase_placed (Completion n 0) o q ≡ true
+answer_placed : (p : Phase) (n : ℕ) (o : Option Locality) (q : Bool) → executes p ≡ true → phase_placed p o q ≡ true → phase_placed (Completion n 0) o q ≡ true
 answer_placed Idle n o q i e = absurd (true≢false (sym i))
 answer_placed Ready n o q i e = absurd (true≢false (sym i))
 answer_placed (Reception k) n o q i e = absurd (true≢false (sym i))
-answer_placed (Execution k) n Nobody q i e = e
-answer_placed (Execution k) n (Held y) q i e = e
+answer_placed (Execution k) n None q i e = e
+answer_placed (Execution k) n (Some y) q i e = e
 answer_placed (Completion k j) n o q i e = absurd (true≢false (sym i))
 
 fresh_placed : (established : Bool) (identity : List ℕ) (n : ℕ) → Placed (fresh_device established identity n)
@@ -193,7 +195,7 @@ one_placed (resets e) i b = fresh_placed _ _ _
 one_placed (looks e) i b = b
 one_placed {s = s} (reads e h) i b = record { phase = read_placed s.device.phase (owner s.device) s.device.launch.sequence b.phase; hash = b.hash }
 one_placed {s = s} (writes {o = o} {v = v} k) i b = write_placed s.device s.write_fifo s.read_fifo o v i b k
-one_placed {s = s} (responds {a = a} e) i b = record { phase = answer_placed s.device.phase (length a) (owner s.device) s.device.launch.sequence (both_true _ _ (answer_then _ _ _ _ _ _ refl e).1).0 b.phase; hash = b.hash }
+one_placed {s = s} (responds {a = a} e) i b = record { phase = answer_placed s.device.phase (length a) (owner s.device) s.device.launch.sequence (both_true _ _ (answer_then _ _ _ _ _ e).1).0 b.phase; hash = b.hash }
 
 -- ---- the clause on the counts
 
@@ -240,16 +242,16 @@ module _ {c : ℕ} {m : Model} {q : Mail} (s : State) (h : Kept c m q s) (p : Pl
 
   -- ---- which calls are refused
 
-  lent_zero : lent_refusal_of s.device s.write_fifo s.read_fifo ≡ accepted
+  lent_none : lent_refusal_of s.device s.write_fifo s.read_fifo ≡ None
   unfolding lent_refusal
-  lent_zero =
+  lent_none =
       rw (lengths_allowed_lem s.write_fifo s.read_fifo h.least h.greatest (write_length h.boxed) (read_length h.boxed), write_length h.boxed, shaped c (omega arith)) refl
 
-  pub bus_value : (o : ℕ) → bus_refusal_of s.device s.write_fifo s.read_fifo o ≡ cond (leb o 0x4fff) 0 1
+  pub bus_value : (o : ℕ) → number_of (bus_refusal_of s.device s.write_fifo s.read_fifo o) ≡ cond (leb o 0x4fff) 0 1
   unfolding bus_refusal
-  bus_value o = rw (lent_zero) (by (leb o 0x4fff) refl)
+  bus_value o = rw (lent_none) (by (leb o 0x4fff) refl)
     where
-      by : (t : Bool) → leb o 0x4fff ≡ t → ◌≡◌ {A = ℕ} (cond (ltb last_offset o) 1 0) (cond t 0 1)
+      by : (t : Bool) → leb o 0x4fff ≡ t → number_of (cond (ltb last_offset o) (Some Offset) None) ≡ cond t 0 1
       by true e = rw (le-ltb last_offset o (leb-true o 0x4fff e)) refl
       by false e = rw (lt-ltb last_offset o (leb-false o 0x4fff e)) refl
 
@@ -298,7 +300,7 @@ module _ {c : ℕ} {m : Model} {q : Mail} (s : State) (h : Kept c m q s) (p : Pl
   write_value o v = by (write_case s.device s.write_fifo s.read_fifo o v)
     where
       -- the offset is one of the five pages'
-      below : bus_refusal_of s.device s.write_fifo s.read_fifo o ≡ accepted → leb o 0x4fff ≡ true
+      below : bus_refusal_of s.device s.write_fifo s.read_fifo o ≡ None → leb o 0x4fff ≡ true
       below e = le-leb o 0x4fff (bus_then _ _ o e).1
 
       above : {n : ℕ} → n ≡ cond (leb o 0x4fff) 0 1 → (n ≡ accepted → ⊥) → n ≡ cond (leb o 0x4fff) (cond (overlong s.device o) 7 0) 1
@@ -308,28 +310,28 @@ module _ {c : ℕ} {m : Model} {q : Mail} (s : State) (h : Kept c m q s) (p : Pl
           on true e = absurd (f e)
           on false e = e
 
-      by : {t : Result} → WriteCase s.device s.write_fifo s.read_fifo o v t → t.refusal ≡ cond (leb o 0x4fff) (cond (overlong s.device o) 7 0) 1
-      by (bus.refused e f) = above (e ∙ bus_value o) f
+      by : {t : Result} → WriteCase s.device s.write_fifo s.read_fifo o v t → number_of t.refusal ≡ cond (leb o 0x4fff) (cond (overlong s.device o) 7 0) 1
+      by (bus.refused {n = n} e f) = above (ap number_of e ∙ bus_value o) (number_refused n f)
       by (bus.overlong e g i l) = rw (below e, sequence_then o s.device.launch.sequence g, i, le-leb 1048576 s.device.launch.stream.count l) refl
       by (bus.accepts e k) = rw (below e, in_limit k) refl
 
   read_value : (o : ℕ) → refusal_of (read o) s ≡ cond (leb o 0x4fff) 0 1
   read_value o = by (read_case s.device s.write_fifo s.read_fifo o)
     where
-      by : {t : ReadOutcome} → ReadCase s.device s.write_fifo s.read_fifo o t → t.refusal ≡ cond (leb o 0x4fff) 0 1
-      by (bus.refused e f) = e ∙ bus_value o
-      by (bus.stays e i b) = sym e ∙ bus_value o
-      by (bus.moves e i f) = sym e ∙ bus_value o
-      by (bus.misses e i f) = sym e ∙ bus_value o
+      by : {t : ReadOutcome} → ReadCase s.device s.write_fifo s.read_fifo o t → number_of t.refusal ≡ cond (leb o 0x4fff) 0 1
+      by (bus.refused e f) = ap number_of e ∙ bus_value o
+      by (bus.stays e i b) = sym (ap number_of e) ∙ bus_value o
+      by (bus.moves e i f) = sym (ap number_of e) ∙ bus_value o
+      by (bus.misses e i f) = sym (ap number_of e) ∙ bus_value o
 
-  answer_value : (run : ℕ) (a : List ℕ) → answer_refusal_of s.device s.write_fifo s.read_fifo run a ≡ refusal_in c s.device (respond run a)
+  answer_value : (run : ℕ) (a : List ℕ) → number_of (answer_refusal_of s.device s.write_fifo s.read_fifo run a) ≡ refusal_in c s.device (respond run a)
   unfolding answer_refusal
   answer_value run a =
-      rw (lent_zero, write_length h.boxed, running_is s.device.phase)
+      rw (lent_none, write_length h.boxed, running_is s.device.phase)
       (by (executes s.device.phase && eqb s.device.control.run run) (leb 10 (length a)) refl (leb (length a) c) refl)
     where
       by : (r t : Bool) → leb 10 (length a) ≡ t → (u : Bool) → leb (length a) c ≡ u
-          → ◌≡◌ {A = ℕ} (cond (not r) 3 (cond (ltb (length a) 10 || ltb c (length a)) 4 0)) (cond r (cond (t && u) 0 4) 3)
+          → number_of (cond (not r) (Some Run) (cond (ltb (length a) 10 || ltb c (length a)) (Some AnswerLength) None)) ≡ (cond r (cond (t && u) 0 4) 3)
       by false t i u j = refl
       by true true i true j = rw (le-ltb (length a) 10 (leb-true 10 (length a) i), le-ltb c (length a) (leb-true (length a) c j)) refl
       by true true i false j = rw (le-ltb (length a) 10 (leb-true 10 (length a) i), lt-ltb c (length a) (leb-false (length a) c j)) refl
@@ -338,33 +340,33 @@ module _ {c : ℕ} {m : Model} {q : Mail} (s : State) (h : Kept c m q s) (p : Pl
   respond_value : (run : ℕ) (a : List ℕ) → refusal_of (respond run a) s ≡ refusal_in c s.device (respond run a)
   respond_value run a = by (respond_case s.device s.write_fifo s.read_fifo run a)
     where
-      by : {t : Result} → RespondCase s.device s.write_fifo s.read_fifo run a t → t.refusal ≡ refusal_in c s.device (respond run a)
-      by (engine.refused e f) = e ∙ answer_value run a
-      by (engine.completes e) = sym e ∙ answer_value run a
+      by : {t : Result} → RespondCase s.device s.write_fifo s.read_fifo run a t → number_of t.refusal ≡ refusal_in c s.device (respond run a)
+      by (engine.refused e f) = ap number_of e ∙ answer_value run a
+      by (engine.completes e) = sym (ap number_of e) ∙ answer_value run a
 
-  asked : (i : ℕ) → refusal_of (pcr_value i) s ≡ pcr_refusal_of s.device i
+  asked : (i : ℕ) → refusal_of (pcr_value i) s ≡ number_of (pcr_refusal_of s.device i)
   unfolding query.pcr_value
-  asked i = by (eqb (pcr_refusal_of s.device i) accepted) refl
+  asked i = by (accepts (pcr_refusal_of s.device i)) refl
     where
-      by : (t : Bool) → eqb (pcr_refusal_of s.device i) accepted ≡ t
-          → (cond t (query.pcr_outcome accepted (value_at s.device.pcrs i)) (query.pcr_outcome (pcr_refusal_of s.device i) (all_bytes 0))).refusal ≡ pcr_refusal_of s.device i
-      by true e = sym (eqb-true (pcr_refusal_of s.device i) accepted e)
+      by : (t : Bool) → accepts (pcr_refusal_of s.device i) ≡ t
+          → number_of (cond t (query.pcr_outcome None (value_at s.device.pcrs i)) (query.pcr_outcome (pcr_refusal_of s.device i) (all_bytes 0))).refusal ≡ number_of (pcr_refusal_of s.device i)
+      by true e = ap number_of (sym (accepts_true (pcr_refusal_of s.device i) e))
       by false e = refl
 
   -- "6, then 5 where a record is asked": a record in shape for c is in shape for the greatest C
-  pcr_value_lem : (i : ℕ) → pcr_refusal_of s.device i ≡ cond (leb i 23) 0 5
+  pcr_value_lem : (i : ℕ) → number_of (pcr_refusal_of s.device i) ≡ cond (leb i 23) 0 5
   unfolding pcr_refusal
   pcr_value_lem i = rw (shaped fifo_greatest h.greatest) (by (leb i 23) refl)
     where
-      by : (t : Bool) → leb i 23 ≡ t → ◌≡◌ {A = ℕ} (cond (leb pcrs i) 5 0) (cond t 0 5)
+      by : (t : Bool) → leb i 23 ≡ t → number_of (cond (leb pcrs i) (Some Question) None) ≡ cond t 0 5
       by true e = rw (lt-leb pcrs i (omega (arith, leb-true i 23 e))) refl
       by false e = rw (le-leb pcrs i (omega (arith, leb-false i 23 e))) refl
 
-  permission_value : (rule : ℕ → ℕ → Bool) (i x : ℕ) → (permission rule i x).refusal ≡ cond (leb i 23 && leb x 4) 0 5
+  permission_value : (rule : ℕ → ℕ → Bool) (i x : ℕ) → number_of (permission rule i x).refusal ≡ cond (leb i 23 && leb x 4) 0 5
   unfolding permission
   permission_value rule i x = by (leb i 23) refl (leb x 4) refl
     where
-      by : (t : Bool) → leb i 23 ≡ t → (u : Bool) → leb x 4 ≡ u → (cond (leb pcrs i || leb localities x) table.refused (table.given (rule i x))).refusal ≡ cond (t && u) 0 5
+      by : (t : Bool) → leb i 23 ≡ t → (u : Bool) → leb x 4 ≡ u → number_of (cond (leb pcrs i || leb localities x) table.refused (table.given (rule i x))).refusal ≡ cond (t && u) 0 5
       by true e true f = rw (lt-leb pcrs i (omega (arith, leb-true i 23 e)), lt-leb localities x (omega (arith, leb-true x 4 f))) refl
       by true e false f = rw (lt-leb pcrs i (omega (arith, leb-true i 23 e)), le-leb localities x (omega (arith, leb-false x 4 f))) refl
       by false e u f = rw (le-leb pcrs i (omega (arith, leb-false i 23 e))) refl
@@ -372,15 +374,15 @@ module _ {c : ℕ} {m : Model} {q : Mail} (s : State) (h : Kept c m q s) (p : Pl
   power_value : (established : Bool) (identity : List ℕ) → refusal_of (power_on established identity) s ≡ accepted
   power_value established identity = by (power_case established identity s.write_fifo s.read_fifo)
     where
-      by : {t : Result} → PowerCase established identity s.write_fifo s.read_fifo t → t.refusal ≡ accepted
+      by : {t : Result} → PowerCase established identity s.write_fifo s.read_fifo t → number_of t.refusal ≡ accepted
       by (power.refused e) = absurd (true≢false (sym (lengths_allowed_lem s.write_fifo s.read_fifo h.least h.greatest (write_length h.boxed) (read_length h.boxed)) ∙ e))
       by (power.powered e) = refl
 
   reset_value : refusal_of reset s ≡ accepted
   reset_value = by (reset_case s.device s.write_fifo s.read_fifo)
     where
-      by : {t : Result} → ResetCase s.device s.write_fifo s.read_fifo t → t.refusal ≡ accepted
-      by (power.refused e f) = absurd (f (e ∙ lent_zero))
+      by : {t : Result} → ResetCase s.device s.write_fifo s.read_fifo t → number_of t.refusal ≡ accepted
+      by (power.refused e f) = absurd (f (e ∙ lent_none))
       by (power.anew e) = refl
 
   refusals : (k : Call) → refusal_of k s ≡ refusal_in c s.device k
@@ -393,7 +395,7 @@ module _ {c : ℕ} {m : Model} {q : Mail} (s : State) (h : Kept c m q s) (p : Pl
   refusals interrupt_line = refl
   refusals (may_reset i x) = permission_value table.may_reset i x
   refusals (may_extend i x) = permission_value table.may_extend i x
-  refusals window = lent_zero
+  refusals window = ap number_of lent_none
 
   -- 2 and 6 are not among the numbers
   never : (k : Call) → Neither (refusal_in c s.device k)
@@ -451,54 +453,51 @@ launch_accepted {c} {s} w o v e = w.refusals (write o v) ∙ by (in_four hash_st
 
 -- lengths that are not allowed
 module _ (s : State) (e : lengths_allowed (lengths_of s.write_fifo s.read_fifo) ≡ false) where
-  lent_2 : lent_refusal_of s.device s.write_fifo s.read_fifo ≡ 2
+  lent_2 : lent_refusal_of s.device s.write_fifo s.read_fifo ≡ Some FifoLength
   unfolding lent_refusal
   lent_2 = rw e refl
 
-  not_lent : lent_refusal_of s.device s.write_fifo s.read_fifo ≡ accepted → ⊥
-  not_lent z = let q : ◌≡◌ {A = ℕ} 2 0 = sym lent_2 ∙ z in omega arith
+  bus_2 : (o : ℕ) → bus_refusal_of s.device s.write_fifo s.read_fifo o ≡ Some FifoLength
+  bus_2 o = bus_lent _ _ o FifoLength lent_2
 
-  bus_2 : (o : ℕ) → bus_refusal_of s.device s.write_fifo s.read_fifo o ≡ 2
-  bus_2 o = sym (bus_lent _ _ _ refl o not_lent) ∙ lent_2
-
-  answer_2 : (run : ℕ) (a : List ℕ) → answer_refusal_of s.device s.write_fifo s.read_fifo run a ≡ 2
-  answer_2 run a = sym (answer_lent _ _ _ refl _ _ _ not_lent) ∙ lent_2
+  answer_2 : (run : ℕ) (a : List ℕ) → answer_refusal_of s.device s.write_fifo s.read_fifo run a ≡ Some FifoLength
+  answer_2 run a = answer_lent _ _ _ _ _ FifoLength lent_2
 
   -- such a call is refused as 2
   refused_2 : (k : Call) → is_lent k ≡ true → refusal_of k s ≡ 2
   refused_2 (power_on x i) t = by (power_case x i s.write_fifo s.read_fifo)
     where
-      by : {u : Result} → PowerCase x i s.write_fifo s.read_fifo u → u.refusal ≡ 2
+      by : {u : Result} → PowerCase x i s.write_fifo s.read_fifo u → number_of u.refusal ≡ 2
       by (power.refused q) = refl
       by (power.powered q) = absurd (true≢false (sym q ∙ e))
   refused_2 reset t = by (reset_case s.device s.write_fifo s.read_fifo)
     where
-      by : {u : Result} → ResetCase s.device s.write_fifo s.read_fifo u → u.refusal ≡ 2
-      by (power.refused q f) = q ∙ lent_2
-      by (power.anew q) = absurd (not_lent q)
+      by : {u : Result} → ResetCase s.device s.write_fifo s.read_fifo u → number_of u.refusal ≡ 2
+      by (power.refused q f) = ap number_of (q ∙ lent_2)
+      by (power.anew q) = ap number_of (sym q ∙ lent_2)
   refused_2 (read o) t = by (read_case s.device s.write_fifo s.read_fifo o)
     where
-      by : {u : ReadOutcome} → ReadCase s.device s.write_fifo s.read_fifo o u → u.refusal ≡ 2
-      by (bus.refused q f) = q ∙ bus_2 o
-      by (bus.stays q i b) = sym q ∙ bus_2 o
-      by (bus.moves q i f) = sym q ∙ bus_2 o
-      by (bus.misses q i f) = sym q ∙ bus_2 o
+      by : {u : ReadOutcome} → ReadCase s.device s.write_fifo s.read_fifo o u → number_of u.refusal ≡ 2
+      by (bus.refused q f) = ap number_of (q ∙ bus_2 o)
+      by (bus.stays q i b) = ap number_of (sym q ∙ bus_2 o)
+      by (bus.moves q i f) = ap number_of (sym q ∙ bus_2 o)
+      by (bus.misses q i f) = ap number_of (sym q ∙ bus_2 o)
   refused_2 (write o v) t = by (write_case s.device s.write_fifo s.read_fifo o v)
     where
-      by : {u : Result} → WriteCase s.device s.write_fifo s.read_fifo o v u → u.refusal ≡ 2
-      by (bus.refused q f) = q ∙ bus_2 o
-      by (bus.overlong q f i l) = absurd (let z : ◌≡◌ {A = ℕ} 0 2 = sym q ∙ bus_2 o in omega arith)
-      by (bus.accepts q k) = sym q ∙ bus_2 o
+      by : {u : Result} → WriteCase s.device s.write_fifo s.read_fifo o v u → number_of u.refusal ≡ 2
+      by (bus.refused q f) = ap number_of (q ∙ bus_2 o)
+      by (bus.overlong q f i l) = absurd (some_refused FifoLength (sym (bus_2 o) ∙ q))
+      by (bus.accepts q k) = ap number_of (sym q ∙ bus_2 o)
   refused_2 (respond run a) t = by (respond_case s.device s.write_fifo s.read_fifo run a)
     where
-      by : {u : Result} → RespondCase s.device s.write_fifo s.read_fifo run a u → u.refusal ≡ 2
-      by (engine.refused q f) = q ∙ answer_2 run a
-      by (engine.completes q) = sym q ∙ answer_2 run a
+      by : {u : Result} → RespondCase s.device s.write_fifo s.read_fifo run a u → number_of u.refusal ≡ 2
+      by (engine.refused q f) = ap number_of (q ∙ answer_2 run a)
+      by (engine.completes q) = ap number_of (sym q ∙ answer_2 run a)
   refused_2 (pcr_value i) t = absurd (true≢false (sym t))
   refused_2 interrupt_line t = absurd (true≢false (sym t))
   refused_2 (may_reset i x) t = absurd (true≢false (sym t))
   refused_2 (may_extend i x) t = absurd (true≢false (sym t))
-  refused_2 window t = lent_2
+  refused_2 window t = ap number_of lent_2
 
   refuses : (k : Call) → is_lent k ≡ true → Refuses k s
   refuses k t z = let q : ◌≡◌ {A = ℕ} 2 0 = sym (refused_2 k t) ∙ z in omega arith
@@ -543,7 +542,7 @@ progress s e i cs = record { works = working; halts = halted }
     short : (refusal_of (power_on e i) s ≡ accepted → ⊥) → lengths_allowed (lengths_of s.write_fifo s.read_fifo) ≡ false
     short f = by (power_case e i s.write_fifo s.read_fifo) f
       where
-        by : {u : Result} → PowerCase e i s.write_fifo s.read_fifo u → (u.refusal ≡ accepted → ⊥) → lengths_allowed (lengths_of s.write_fifo s.read_fifo) ≡ false
+        by : {u : Result} → PowerCase e i s.write_fifo s.read_fifo u → (number_of u.refusal ≡ accepted → ⊥) → lengths_allowed (lengths_of s.write_fifo s.read_fifo) ≡ false
         by (power.refused q) f = q
         by (power.powered q) f = absurd (f refl)
 

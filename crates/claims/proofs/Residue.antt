@@ -11,8 +11,7 @@ use Rattle.arbiter_model.proofs.ModelLaws.{not_free}
 use Rattle.arbiter.specs.Agreement.{holder}
 use Rattle.arbiter.specs.declared.Change.{Change}
 use Rattle.arbiter.specs.declared.Locality.{Locality}
-use Rattle.arbiter.specs.declared.Owner.{Owner}
-use Rattle.arbiter.specs.declared.Owner.TheVariants.{Nobody, Held}
+use Rattle.std.specs.Prelude.{Option, Some, None}
 use Rattle.arbiter.proofs.Cases as rule
 use Rattle.arbiter.proofs.Cases.{AccessCase, access_case}
 use Rattle.record.specs.Record.{fresh_device}
@@ -74,9 +73,9 @@ idle_is (Execution n) e = absurd (true≢false (sym e))
 idle_is (Completion n k) e = absurd (true≢false (sym e))
 
 -- a free device is Idle
-free_idle : (o : Owner) (p : Phase) (q : Bool) → phase_placed p o q ≡ true → holder o ≡ free → p ≡ Idle
-free_idle Nobody p q e f = idle_is p e
-free_idle (Held y) p q e f = absurd (not_free f)
+free_idle : (o : Option Locality) (p : Phase) (q : Bool) → phase_placed p o q ≡ true → holder o ≡ free → p ≡ Idle
+free_idle None p q e f = idle_is p e
+free_idle (Some y) p q e f = absurd (not_free f)
 
 -- a call that takes the device from its owner, or gives it to one, leaves Idle
 abbrev pub Moved : State → State → Type 0

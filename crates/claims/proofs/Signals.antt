@@ -15,10 +15,10 @@ use Rattle.arbiter.specs.Rules as rule
 use Rattle.arbiter.specs.Rules.{keeps_command, aborts_command, serve, next_owner, hand_to, handover, access_command, request_from, request, release, seize_from, seize, clear_seized, commanded, write_access}
 use Rattle.arbiter.specs.Agreement.{Agrees, holder}
 use Rattle.arbiter.specs.declared.Arbiter.{Arbiter}
-use Rattle.arbiter.specs.declared.Owner.{Owner}
-use Rattle.arbiter.specs.declared.Owner.TheVariants.{Nobody, Held}
+use Rattle.arbiter.specs.declared.Locality.{Locality}
+use Rattle.std.specs.Prelude.{Option, Some, None}
 use Rattle.arbiter.specs.declared.access.AccessCommand.{AccessCommand}
-use Rattle.arbiter.specs.declared.access.AccessCommand.TheVariants.{Nothing, RequestUse, ActiveLocality, Seize, BeenSeized}
+use Rattle.arbiter.specs.declared.access.AccessCommand.TheVariants.{RequestUse, ActiveLocality, Seize, BeenSeized}
 use Rattle.arbiter.proofs.Agreement.{command_event, event_command, get_or_put}
 use Rattle.arbiter_model.specs.Model as model
 use Rattle.arbiter_model.specs.Model.{Model, held, Event, access_event, is_access, write_event, put, highest, ignores_page, fresh}
@@ -79,9 +79,9 @@ handed_marks : (b : Arbiter) → (handover b).arbiter.seized ≡ b.seized
 unfolding handover
 handed_marks b = by (next_owner b.waiting)
   where
-    by : (o : Owner) → (hand_to o b).arbiter.seized ≡ b.seized
-    by Nobody = refl
-    by (Held y) = refl
+    by : (o : Option Locality) → (hand_to o b).arbiter.seized ≡ b.seized
+    by None = refl
+    by (Some y) = refl
 
 -- ---- a write to ACCESS of page x
 
@@ -102,9 +102,9 @@ module _ {m : Model} {b : Arbiter} {q : Bool} (x : ℕ) (a : Agrees m b q) (h : 
   unfolding write_access request release seize clear_seized
   marks_same v {w} l known k = rw (event_command x v) (by (access_command v))
     where
-      asks : (o : Owner) → Marks (request_from o b (locality x)).arbiter w
-      asks Nobody = record { flags = k.flags; count = k.count }
-      asks (Held y) = on (eqb y.0 x)
+      asks : (o : Option Locality) → Marks (request_from o b (locality x)).arbiter w
+      asks None = record { flags = k.flags; count = k.count }
+      asks (Some y) = on (eqb y.0 x)
         where
           on : (t : Bool) → Marks (cond t (keeps_command b) (keeps_command (rule.queued b (locality x)))).arbiter w
           on true = k
@@ -115,9 +115,9 @@ module _ {m : Model} {b : Arbiter} {q : Bool} (x : ℕ) (a : Agrees m b q) (h : 
       releases false true = record { flags = k.flags; count = k.count }
       releases false false = k
 
-      takes : (o : Owner) → b.active ≡ o → Marks (seize_from o b (locality x)).arbiter (marked_by model.seize (holder o) x w)
-      takes Nobody e = record { flags = k.flags; count = k.count }
-      takes (Held y) e = on (ltb y.0 x)
+      takes : (o : Option Locality) → b.active ≡ o → Marks (seize_from o b (locality x)).arbiter (marked_by model.seize (holder o) x w)
+      takes None e = record { flags = k.flags; count = k.count }
+      takes (Some y) e = on (ltb y.0 x)
         where
           on : (t : Bool) → Marks (cond t (aborts_command (with_seized (serve b (locality x)) y.0 true)) (keeps_command b)).arbiter (cond t (put w y.0 true) w)
           on true = record {
@@ -126,12 +126,12 @@ module _ {m : Model} {b : Arbiter} {q : Bool} (x : ℕ) (a : Agrees m b q) (h : 
           }
           on false = k
 
-      by : (j : AccessCommand) → Marks (commanded j b (locality x)).arbiter (marked m (command_event x j) w)
-      by Nothing = k
-      by RequestUse = rw h (asks b.active)
-      by ActiveLocality = rw h (releases (holds b.active (locality x)) (waits b x))
-      by Seize = rw (h, a.active) (takes b.active refl)
-      by BeenSeized = rw h (record { flags = λ z. put_mark b.seized w x z false (omega (arith, k.count)) k.flags; count = length-set b.seized x false ∙ k.count })
+      by : (j : Option AccessCommand) → Marks (commanded j b (locality x)).arbiter (marked m (command_event x j) w)
+      by None = k
+      by (Some RequestUse) = rw h (asks b.active)
+      by (Some ActiveLocality) = rw h (releases (holds b.active (locality x)) (waits b x))
+      by (Some Seize) = rw (h, a.active) (takes b.active refl)
+      by (Some BeenSeized) = rw h (record { flags = λ z. put_mark b.seized w x z false (omega (arith, k.count)) k.flags; count = length-set b.seized x false ∙ k.count })
 
 -- ---- what a write to STS or the FIFO raises
 
@@ -178,7 +178,7 @@ module _ (c : ℕ) (l : fifo_least ≤ c) where
       → (commanded_by (sts_command v) (phase_of b) n (size_in b) (length_in b)).causes ≡ causes (is_command_ready v && is_idle b) (is_tpm_go v && may_go c b && not (size_runs c b))
   order_raises b n v f = by (sts_case v)
     where
-      by : {r g t : Bool} {k : StsCommand} → StsCase r g t k → (commanded_by k (phase_of b) n (size_in b) (length_in b)).causes ≡ causes (r && is_idle b) (g && may_go c b && not (size_runs c b))
+      by : {r g t : Bool} {k : Option StsCommand} → StsCase r g t k → (commanded_by k (phase_of b) n (size_in b) (length_in b)).causes ≡ causes (r && is_idle b) (g && may_go c b && not (size_runs c b))
       by orders.readies = ready_raises b n
       by orders.goes = go_raises b n f
       by orders.retries = retry_raises b n

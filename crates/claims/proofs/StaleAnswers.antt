@@ -16,6 +16,8 @@ use Rattle.reg_sts_write.specs.Sts.{next_run}
 use Rattle.reg_sts_write.specs.declared.Commanded.{Commanded}
 use Rattle.reg_sts_write.proofs.Cases as command
 use Rattle.reg_sts_write.proofs.Cases.{CommandCase}
+use Rattle.refusal.specs.Refusal.{number_of}
+use Rattle.refusal.proofs.RefusalNumbers.{number_accepted, number_refused}
 use Rattle.call_admission.specs.Refusals.{executes, lent_refusal_of}
 use Rattle.call_admission.proofs.RefusalLaws.{answer_run, answer_then}
 use Rattle.call_outcome.specs.Result.{Result}
@@ -145,9 +147,13 @@ refused : (s : State) (old : ℕ) (a : List ℕ) → (executes s.device.phase &&
 refused s old a e = by _ (respond_case s.device s.write_fifo s.read_fifo old a)
   where
     by : (t : Result) → RespondCase s.device s.write_fifo s.read_fifo old a t
-        → RefusedAs (lent_refusal_of s.device s.write_fifo s.read_fifo) t.refusal s (left_by t)
-    by t (engine.refused is f) = record { never = f; as_three = λ z. is ∙ sym (answer_run _ _ _ refl _ _ _ z _ refl (ap not e)); same = refl }
-    by t (engine.completes is) = absurd (true≢false (sym (answer_then _ _ _ _ _ _ refl is).1 ∙ e))
+        → RefusedAs (number_of (lent_refusal_of s.device s.write_fifo s.read_fifo)) (number_of t.refusal) s (left_by t)
+    by t (engine.refused {n = n} is f) = record {
+      never = number_refused n f;
+      as_three = λ z. ap number_of (is ∙ answer_run _ _ _ _ _ (number_accepted _ z) e);
+      same = refl;
+    }
+    by t (engine.completes is) = absurd (true≢false (sym (answer_then _ _ _ _ _ is).1 ∙ e))
 
 no_stale : (s : State) → run_of s < 2 ^ 32 → NoStaleAnswer s
 unfolding NoStaleAnswer

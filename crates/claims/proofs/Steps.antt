@@ -7,11 +7,12 @@ use contract.Lifetimes.{Lfts}
 use Rattle.arbiter.specs.State.{locality}
 use Rattle.pcr.specs.declared.PcrIndex.{PcrIndex}
 use Rattle.pcr.specs.declared.Permission.{Permission}
-use Rattle.refusal.specs.Refusal.{accepted}
+use Rattle.refusal.specs.Refusal.{accepted, number_of}
 use Rattle.record.specs.declared.Device.{Device}
 use Rattle.call_outcome.specs.declared.Outcome.{Outcome}
 use Rattle.call_outcome.specs.declared.ReadOutcome.{ReadOutcome}
 use Rattle.call_query.specs.declared.PcrOutcome.{PcrOutcome}
+use Rattle.call_query.specs.declared.WindowOutcome.{WindowOutcome}
 use Rattle.call_power.proofs.power_on.Reads as power_on_contract
 use Rattle.call_power.proofs.reset.Reads as reset_contract
 use Rattle.call_bus.proofs.reading.read.Reads as read_contract
@@ -35,35 +36,35 @@ answer n v = record { refusal = n; value = v }
 pub data Step : Call → State → Answer → State → Type 0 where
   powers_on : (κs : Lfts 2) (d : Device) (established : Bool) (identity : List ℕ) (w w' r r' : MutBor (List ℕ)) (o : Outcome)
       → power_on_contract.Post κs (established, (identity, (w, (r, tt)))) o (established, (identity, (w', (r', tt))))
-      → Step (power_on established identity) (state d w.now r.now) (answer o.refusal nothing) (state o.device w'.now r'.now)
+      → Step (power_on established identity) (state d w.now r.now) (answer (number_of o.refusal) nothing) (state o.device w'.now r'.now)
   resets : (κs : Lfts 2) (d : Device) (w w' r r' : MutBor (List ℕ)) (o : Outcome)
       → reset_contract.Post κs (d, (w, (r, tt))) o (d, (w', (r', tt)))
-      → Step reset (state d w.now r.now) (answer o.refusal nothing) (state o.device w'.now r'.now)
+      → Step reset (state d w.now r.now) (answer (number_of o.refusal) nothing) (state o.device w'.now r'.now)
   reads : (κs : Lfts 2) (d : Device) (w r : Bor (List ℕ)) (offset : ℕ) (o : ReadOutcome)
       → read_contract.Post κs (d, (w, (r, (offset, tt)))) o (d, (w, (r, (offset, tt))))
-      → Step (read offset) (state d w.now r.now) (answer o.refusal (byte o.byte)) (state o.device w.now r.now)
+      → Step (read offset) (state d w.now r.now) (answer (number_of o.refusal) (byte o.byte)) (state o.device w.now r.now)
   writes : (κs : Lfts 2) (d : Device) (w w' r r' : MutBor (List ℕ)) (offset v : ℕ) (o : Outcome)
       → write_contract.Post κs (d, (w, (r, (offset, (v, tt))))) o (d, (w', (r', (offset, (v, tt)))))
-      → Step (write offset v) (state d w.now r.now) (answer o.refusal nothing) (state o.device w'.now r'.now)
+      → Step (write offset v) (state d w.now r.now) (answer (number_of o.refusal) nothing) (state o.device w'.now r'.now)
   responds : (κs : Lfts 3) (d : Device) (w w' r r' : MutBor (List ℕ)) (a : Bor (List ℕ)) (run : ℕ) (o : Outcome)
       → respond_contract.Post κs (d, (w, (r, (run, (a, tt))))) o (d, (w', (r', (run, (a, tt)))))
-      → Step (respond run a.now) (state d w.now r.now) (answer o.refusal nothing) (state o.device w'.now r'.now)
+      → Step (respond run a.now) (state d w.now r.now) (answer (number_of o.refusal) nothing) (state o.device w'.now r'.now)
   -- a question takes the record by value and the FIFOs to read: it leaves them as it got them
   asks_pcr : (κs : Lfts 0) (s : State) (i : ℕ) (o : PcrOutcome)
       → pcr_value_contract.Post κs (s.device, (pcr_index i, tt)) o (s.device, (pcr_index i, tt))
-      → Step (pcr_value i) s (answer o.refusal (bytes o.value)) s
+      → Step (pcr_value i) s (answer (number_of o.refusal) (bytes o.value)) s
   asks_line : (κs : Lfts 0) (s : State) (level : Bool)
       → interrupt_line_contract.Post κs (s.device, tt) level (s.device, tt)
       → Step interrupt_line s (answer accepted (flag level)) s
   asks_reset : (κs : Lfts 0) (s : State) (i x : ℕ) (o : Permission)
       → may_reset_contract.Post κs (pcr_index i, (locality x, tt)) o (pcr_index i, (locality x, tt))
-      → Step (may_reset i x) s (answer o.refusal (flag o.allowed)) s
+      → Step (may_reset i x) s (answer (number_of o.refusal) (flag o.allowed)) s
   asks_extend : (κs : Lfts 0) (s : State) (i x : ℕ) (o : Permission)
       → may_extend_contract.Post κs (pcr_index i, (locality x, tt)) o (pcr_index i, (locality x, tt))
-      → Step (may_extend i x) s (answer o.refusal (flag o.allowed)) s
-  looks : (κs : Lfts 2) (d : Device) (w r t : Bor (List ℕ)) (n n' : MutBor ℕ)
-      → window_contract.Post κs (d, (w, (r, (n, tt)))) t (d, (w, (r, (n', tt))))
-      → Step window (state d w.now r.now) (answer n'.now (bytes t.now)) (state d w.now r.now)
+      → Step (may_extend i x) s (answer (number_of o.refusal) (flag o.allowed)) s
+  looks : (κs : Lfts 1) (d : Device) (w r : Bor (List ℕ)) (o : WindowOutcome)
+      → window_contract.Post κs (d, (w, (r, tt))) o (d, (w, (r, tt)))
+      → Step window (state d w.now r.now) (answer (number_of o.refusal) (bytes o.bytes.now)) (state d w.now r.now)
 
 -- a list of calls with their answers, each handed what the last one left
 pub data Runs : State → List (Call × Answer) → State → Type 0 where

@@ -4,6 +4,7 @@ use mathlib.Core.Path.{◌≡◌, refl, sym, ap, ◌∙◌}
 use mathlib.Core.Bool.{Bool, true, false, cond, not, ◌&&◌, ◌||◌, true≢false}
 use mathlib.Core.List.{List, [], ◌∷◌, ◌++◌}
 use Prim.Native.Nat.{ℕ, ◌+◌, ◌/◌, ◌%◌, ◌^◌, ◌≤◌, ◌<◌}
+use Rattle.std.specs.Prelude.{Option}
 use native.Mathlib.Omega.{arith}
 use lib.ListN.{length, take, length-append}
 use lib.Seq.{take-length, take-append-le, get_or-take}
@@ -202,7 +203,7 @@ module _ (c : ℕ) (m m' : Model) (q : Mail) (t : Trail) (f : Fits c q.box) (sta
       → Told c m' (after_sts c v q).box (cond (is_command_ready v) (trail [] t.starter) (cond (is_tpm_go v && may_go c q.box) (trail t.sent x) t))
   order_told x v i = by (sts_case v)
     where
-      by : {r g u : Bool} {k : StsCommand} → StsCase r g u k
+      by : {r g u : Bool} {k : Option StsCommand} → StsCase r g u k
           → Told c m' (cond r (mail (after_command_ready q.box) q.run) (cond g (after_tpm_go c q.box q.run) (cond u (mail (after_retry q.box) q.run) q))).box
           (cond r (trail [] t.starter) (cond (g && may_go c q.box) (trail t.sent x) t))
       by orders.readies = ready_told q.box
@@ -245,7 +246,7 @@ goes_on c m bs n o v e = by (by_active m o && is_sts_command o) refl (by_active 
     bits : is_command_ready v ≡ false → after_sts c v q ≡ q
     bits r = on (sts_case v) r
       where
-        on : {r g u : Bool} {k : StsCommand} → StsCase r g u k → r ≡ false
+        on : {r g u : Bool} {k : Option StsCommand} → StsCase r g u k → r ≡ false
             → cond r (mail (after_command_ready (executing bs)) n) (cond g (after_tpm_go c (executing bs) n) (cond u (mail (after_retry (executing bs)) n) q)) ≡ q
         on orders.readies e = absurd (true≢false e)
         on orders.goes e = refl

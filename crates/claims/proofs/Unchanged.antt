@@ -1,10 +1,12 @@
 -- A refusal changes nothing, and gives what document 01 names. Assumes nothing.
-use mathlib.Core.Path.{◌≡◌, refl}
+use mathlib.Core.Path.{◌≡◌, refl, ap}
 use mathlib.Core.Bool.{Bool, false, true≢false}
 use mathlib.Core.List.{List, []}
 use lib.ListN.{replicate}
 use Prim.Native.Nat.{ℕ}
-use Rattle.refusal.specs.Refusal.{accepted}
+use Rattle.std.specs.Prelude.{Option}
+use Rattle.refusal.specs.Refusal.{accepted, number_of}
+use Rattle.refusal.specs.declared.Refusal.{Refusal}
 use Rattle.record.specs.Record.{fresh_device}
 use Rattle.record.specs.declared.Device.{Device}
 use Rattle.call_outcome.specs.Result.{Result}
@@ -32,30 +34,30 @@ stays (reads i k) q f = absurd (f refl)
 stays (writes k) q f = absurd (f refl)
 stays (responds k) q f = absurd (f refl)
 
-fresh : {established : Bool} {identity w r : List ℕ} {t : Result} → PowerCase established identity w r t → (t.refusal ≡ accepted → ⊥)
+fresh : {established : Bool} {identity w r : List ℕ} {t : Result} → PowerCase established identity w r t → (number_of t.refusal ≡ accepted → ⊥)
     → left_by t ≡ state (fresh_device established identity 0) w r
 fresh (power.refused l) f = refl
 fresh (power.powered l) f = absurd (f refl)
 
 -- ---- what a refused call gives
 
-read_gives : {d : Device} {w r : List ℕ} {o : ℕ} {t : ReadOutcome} → ReadCase d w r o t → (t.refusal ≡ accepted → ⊥) → byte t.byte ≡ byte 0xff
+read_gives : {d : Device} {w r : List ℕ} {o : ℕ} {t : ReadOutcome} → ReadCase d w r o t → (number_of t.refusal ≡ accepted → ⊥) → byte t.byte ≡ byte 0xff
 read_gives (bus.refused e f) g = refl
 read_gives (bus.stays e i b) g = absurd (g refl)
 read_gives (bus.moves e i h) g = absurd (g refl)
 read_gives (bus.misses e i h) g = absurd (g refl)
 
-pcr_gives : {d : Device} {i : ℕ} {t : PcrOutcome} → PcrCase d i t → (t.refusal ≡ accepted → ⊥) → bytes t.value ≡ bytes (replicate 20 0)
+pcr_gives : {d : Device} {i : ℕ} {t : PcrOutcome} → PcrCase d i t → (number_of t.refusal ≡ accepted → ⊥) → bytes t.value ≡ bytes (replicate 20 0)
 pcr_gives (query.refused f) g = refl
 pcr_gives (query.given e) g = absurd (g refl)
 
-permission_gives : {rule : ℕ → ℕ → Bool} {i x : ℕ} {t : Permission} → PermissionCase rule i x t → (t.refusal ≡ accepted → ⊥) → flag t.allowed ≡ flag false
+permission_gives : {rule : ℕ → ℕ → Bool} {i x : ℕ} {t : Permission} → PermissionCase rule i x t → (number_of t.refusal ≡ accepted → ⊥) → flag t.allowed ≡ flag false
 permission_gives query.refused g = refl
 permission_gives query.given g = absurd (g refl)
 
-window_gives : {d : Device} {w r : List ℕ} {n : ℕ} {p : Span} → WindowCase d w r n p → (n ≡ accepted → ⊥) → bytes (shown_by p w r) ≡ bytes []
+window_gives : {d : Device} {w r : List ℕ} {n : Option Refusal} {p : Span} → WindowCase d w r n p → (number_of n ≡ accepted → ⊥) → bytes (shown_by p w r) ≡ bytes []
 window_gives (query.refused f) g = refl
-window_gives (query.shows e) g = absurd (g e)
+window_gives (query.shows e) g = absurd (g (ap number_of e))
 
 refused_gives : (c : Call) (s : State) → Refuses c s → (called c s).answer.value ≡ refused_value c
 refused_gives (power_on e i) s f = refl

@@ -1,6 +1,6 @@
 -- The public calls, what each of them answers and what it leaves, and lists of them, each handed what the last one left. Assumes nothing.
 use Rattle.std.specs.Prelude.{ℕ, ◌-◌, ◌≡◌, Bool, true, false, cond, List, [], ◌∷◌, take, drop}
-use Rattle.refusal.specs.Refusal.{accepted}
+use Rattle.refusal.specs.Refusal.{accepted, number_of}
 use Rattle.pcr.specs.Permission as table
 use Rattle.pcr.specs.Permission.{permission}
 use Rattle.record.specs.declared.Device.{Device}
@@ -67,18 +67,18 @@ abbrev pub gives : ℕ → Value → State → Called
 gives n v s = record { answer = record { refusal = n; value = v }; left = s }
 
 abbrev pub changes : Result → Called
-changes t = gives t.refusal nothing (state t.device t.write_fifo t.read_fifo)
+changes t = gives (number_of t.refusal) nothing (state t.device t.write_fifo t.read_fifo)
 
 -- a read leaves the FIFOs
 abbrev pub reads : ReadOutcome → State → Called
-reads t s = gives t.refusal (byte t.byte) (state t.device s.write_fifo s.read_fifo)
+reads t s = gives (number_of t.refusal) (byte t.byte) (state t.device s.write_fifo s.read_fifo)
 
 -- "A question leaves the record and the FIFOs as it got them."
 abbrev pub asks_pcr : PcrOutcome → State → Called
-asks_pcr t s = gives t.refusal (bytes t.value) s
+asks_pcr t s = gives (number_of t.refusal) (bytes t.value) s
 
 abbrev pub asks_permission : Permission → State → Called
-asks_permission t s = gives t.refusal (flag t.allowed) s
+asks_permission t s = gives (number_of t.refusal) (flag t.allowed) s
 
 -- the bytes of a FIFO that a span names
 abbrev pub shown_by : Span → List ℕ → List ℕ → List ℕ
@@ -95,7 +95,7 @@ called interrupt_line s = gives accepted (flag (query.interrupt_line s.device)) 
 called (may_reset i x) s = asks_permission (permission table.may_reset i x) s
 called (may_extend i x) s = asks_permission (permission table.may_extend i x) s
 called window s =
-    gives (lent_refusal_of s.device s.write_fifo s.read_fifo)
+    gives (number_of (lent_refusal_of s.device s.write_fifo s.read_fifo))
     (bytes (shown_by (query.window_span s.device s.write_fifo s.read_fifo) s.write_fifo s.read_fifo))
     s
 

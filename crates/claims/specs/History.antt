@@ -1,12 +1,11 @@
 -- The history of calls is all: what a list of calls leaves, every field of the record and every byte of both FIFOs, is given by C, the calls
 -- and their refusal numbers, through the books. Assumes nothing.
-use Rattle.std.specs.Prelude.{ℕ, zero, suc, ◌≡◌, cond, List, [], ◌∷◌, ◌++◌, length, replicate, eqb}
+use Rattle.std.specs.Prelude.{ℕ, zero, suc, ◌≡◌, cond, List, [], ◌∷◌, ◌++◌, length, replicate, eqb, Option, Some, None}
 use Rattle.sha1_block.specs.Sha1.{sha1}
 use Rattle.sha1_message.specs.Stream.{nothing as no_stream, begin, join_all}
 use Rattle.pcr.specs.Bank.{pcr}
 use Rattle.arbiter.specs.State.{locality}
-use Rattle.arbiter.specs.declared.Owner.{Owner}
-use Rattle.arbiter.specs.declared.Owner.TheVariants.{Nobody, Held}
+use Rattle.arbiter.specs.declared.Locality.{Locality}
 use Rattle.record.specs.declared.Device.{Device}
 use Rattle.arbiter_model.specs.Model.{Model, Holder, free, held, is_hash_start, is_hash_end, step, fresh}
 use Rattle.claims.specs.Calls.{Call, State, state, Answer, StartsAccepted, OverLists}
@@ -64,9 +63,9 @@ identity_after h = identity_from [] h
 
 -- ---- the state that the books make up
 
-abbrev pub owner_of : Holder → Owner
-owner_of free = Nobody
-owner_of (held y) = Held (locality y)
+abbrev pub owner_of : Holder → Option Locality
+owner_of free = None
+owner_of (held y) = Some (locality y)
 
 -- f 0 to f (n - 1)
 abbrev pub listed : {A : Type 0} → ℕ → (ℕ → A) → List A

@@ -2,7 +2,7 @@
 -- 2 ^ 32 further runs or a power-on. Assumes nothing.
 use Rattle.std.specs.Prelude.{◌≡◌, Bool, true, false, not, ◌&&◌, List, [], ◌∷◌, ℕ, ◌+◌, ◌^◌, ◌<◌, eqb}
 use Rattle.refusal.specs.Refusal as refusal
-use Rattle.refusal.specs.Refusal.{accepted}
+use Rattle.refusal.specs.Refusal.{accepted, number_of}
 use Rattle.arbiter_model.specs.Waits.{one}
 use Rattle.record.specs.declared.Phase.{Phase}
 use Rattle.record.specs.declared.Phase.TheVariants.{Idle, Ready, Reception, Execution, Completion}
@@ -36,7 +36,7 @@ pub record RefusedAs (lent n : ℕ) (s s' : State) : Type 0 where
   pub same : s' ≡ s
 
 abbrev pub Refused : Call → State → Type 0
-Refused c s = RefusedAs (lent_refusal_of s.device s.write_fifo s.read_fifo) (refusal_of c s) s (left c s)
+Refused c s = RefusedAs (number_of (lent_refusal_of s.device s.write_fifo s.read_fifo)) (refusal_of c s) s (left c s)
 
 -- from s on: once a call has left Execution, an answer that carries the number of that run is refused until 2 ^ 32 further runs or a power-on
 unfoldable pub NoStaleAnswer : State → Type 0

@@ -6,7 +6,7 @@ use Prim.Native.Nat.{ℕ, ◌-◌}
 use lib.ListN.{length, drop, replicate}
 use Rattle.arbiter.specs.State.{locality, with_active, fresh_arbiter}
 use Rattle.arbiter.specs.Rules.{access_command, request, release, seize, clear_seized, write_access, handover}
-use Rattle.arbiter.specs.declared.Owner.TheVariants.{Held}
+use Rattle.std.specs.Prelude.{Some}
 use Rattle.pcr.specs.Bank as bank
 use Rattle.pcr.specs.Permission.{permission_table, may_reset, may_extend, permission}
 use Rattle.record.specs.Record.{no_causes, closed_launch, fresh_device, with_parts}
@@ -103,7 +103,7 @@ owned n p k w r =
     state
     (with_parts (fresh_device false (replicate 5 0) 0)
     (record {
-      arbiter = with_active fresh_arbiter (Held (locality 0));
+      arbiter = with_active fresh_arbiter (Some (locality 0));
       interrupts = record { global = false; enable = no_causes; status = k };
       established = false;
       run = n;

@@ -5,6 +5,9 @@ use mathlib.Core.Bool.{Bool, true, false, cond, not, ◌&&◌}
 use mathlib.Core.List.{List, [], ◌∷◌}
 use lib.Dec.{eqb, leb}
 use lib.ListN.{length}
+use Rattle.std.specs.Prelude.{None, Some}
+use Rattle.refusal.specs.Refusal.{number_of, accepts}
+use Rattle.refusal.specs.declared.Refusal.TheVariants.{FifoLength, Shape}
 use Rattle.pcr.specs.Bank.{value_at, all_bytes}
 use Rattle.record.specs.Record.{fresh_device}
 use Rattle.record.specs.declared.Device.{Device}
@@ -32,7 +35,7 @@ lengths_hold : Lengths
 unfolding power_on lengths_allowed
 lengths_hold d w r established identity = by (leb 1024 (length w) && leb (length w) 8192 && eqb (length w) (length r))
   where
-    by : (t : Bool) → (cond t (result 0 (fresh_device established identity 0) (clear_fifo w) (clear_fifo r)) (result 2 (fresh_device established identity 0) w r)).refusal ≡ cond t 0 2
+    by : (t : Bool) → number_of (cond t (result None (fresh_device established identity 0) (clear_fifo w) (clear_fifo r)) (result (Some FifoLength) (fresh_device established identity 0) w r)).refusal ≡ cond t 0 2
     by true = refl
     by false = refl
 
@@ -45,7 +48,9 @@ counts_hold d = record {
 }
   where
     -- t is the clause on the counts
-    by : (t : Bool) → (cond (eqb (cond (not (t && true && true)) 6 0) 0) (pcr_outcome 0 (value_at d.pcrs 0)) (pcr_outcome (cond (not (t && true && true)) 6 0) (all_bytes 0))).refusal ≡ cond t 0 6
+    by : (t : Bool)
+        → number_of (cond (accepts (cond (not (t && true && true)) (Some Shape) None)) (pcr_outcome None (value_at d.pcrs 0)) (pcr_outcome (cond (not (t && true && true)) (Some Shape) None) (all_bytes 0))).refusal
+        ≡ cond t 0 6
     by true = refl
     by false = refl
 

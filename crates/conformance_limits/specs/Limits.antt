@@ -1,8 +1,7 @@
 -- The limits of document 01 with document 02's W6 ("C may be up to 8,192, and the burst cap becomes 512"), as a monitor and a driver meet them. The
 -- calls' definitions have names for them; the numerals here are the papers'. Assumes nothing.
-use Rattle.std.specs.Prelude.{ℕ, ◌≡◌, Bool, false, cond, ◌&&◌, List, [], ◌∷◌, eqb, leb, length, replicate}
+use Rattle.std.specs.Prelude.{ℕ, ◌≡◌, Bool, false, cond, ◌&&◌, List, [], ◌∷◌, eqb, leb, length, replicate, Some}
 use Rattle.arbiter.specs.State.{locality, with_active, fresh_arbiter}
-use Rattle.arbiter.specs.declared.Owner.TheVariants.{Held}
 use Rattle.record.specs.Record.{no_causes, closed_launch, with_parts}
 use Rattle.record.specs.declared.Device.{Device}
 use Rattle.record.specs.declared.Phase.{Phase}
@@ -28,7 +27,7 @@ abbrev pub in_phase : Device → Phase → Device
 in_phase d p =
     with_parts d
     (record {
-      arbiter = with_active fresh_arbiter (Held (locality 0));
+      arbiter = with_active fresh_arbiter (Some (locality 0));
       interrupts = record { global = false; enable = no_causes; status = no_causes };
       established = false;
       run = 0;

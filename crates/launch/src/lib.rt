@@ -17,26 +17,17 @@ const LAUNCH_PCR: PcrIndex = PcrIndex(17);
 pub fn hash_step(k: WriteKind) -> bool
     ensures { result ≡ hash_step k }
 {
-    match k {
-        WriteKind::HashStart => true,
-        WriteKind::HashEnd => true,
-        WriteKind::HashData => true,
-        WriteKind::Ignored => false,
-        WriteKind::Ordinary(_g) => false,
-    }
+    matches!(
+        k,
+        WriteKind::HashStart | WriteKind::HashEnd | WriteKind::HashData
+    )
 }
 
 // Refused as 7; `count` is how many bytes the sequence took.
 pub fn overlong(k: WriteKind, count: u32) -> bool
     ensures { result ≡ overlong_spec k count }
 {
-    match k {
-        WriteKind::HashStart => false,
-        WriteKind::HashEnd => false,
-        WriteKind::HashData => HASH_LIMIT <= count,
-        WriteKind::Ignored => false,
-        WriteKind::Ordinary(_g) => false,
-    }
+    matches!(k, WriteKind::HashData) && HASH_LIMIT <= count
 }
 
 fn begun_launch() -> Launch
@@ -52,13 +43,13 @@ fn joined(l: Launch, v: u8) -> Launch
     requires { l.stream.count + 1 < 2 ^ 32 }
     ensures { result ≡ joined_spec l v }
 {
-    let s = l.stream;
     Launch {
-        sequence: l.sequence,
-        stream: sha1_message::join(s, v),
+        stream: sha1_message::join(l.stream, v),
+        ..l
     }
 }
 
+#[tactic(auto, unfolding(crate::specs::Launch::launch_after))]
 pub fn launch_after(k: WriteKind, l: Launch, v: u8) -> Launch
     requires { k ≡ HashData → l.stream.count + 1 < 2 ^ 32 }
     ensures { result ≡ launch_after k l v }
@@ -67,28 +58,25 @@ pub fn launch_after(k: WriteKind, l: Launch, v: u8) -> Launch
         WriteKind::HashStart => begun_launch(),
         WriteKind::HashEnd => closed_launch(),
         WriteKind::HashData => joined(l, v),
-        WriteKind::Ignored => l,
-        WriteKind::Ordinary(_g) => l,
+        WriteKind::Ignored | WriteKind::Ordinary(_) => l,
     }
 }
 
 fn measured(bank: [Pcr; 24], l: Launch) -> [Pcr; 24]
     ensures { result ≡ measured_spec bank l }
 {
-    let s = l.stream;
-    let digest = sha1_message::finish(s);
+    let digest = sha1_message::finish(l.stream);
     let value = pcr::bank::value_at(bank, LAUNCH_PCR);
     pcr::bank::replaced(bank, LAUNCH_PCR, sha1_message::extend(value, digest))
 }
 
+#[tactic(auto, unfolding(crate::specs::Launch::pcrs_after))]
 pub fn pcrs_after(k: WriteKind, l: Launch, bank: [Pcr; 24]) -> [Pcr; 24]
     ensures { result ≡ pcrs_after k l bank }
 {
     match k {
         WriteKind::HashStart => pcr::bank::launched(bank),
         WriteKind::HashEnd => measured(bank, l),
-        WriteKind::HashData => bank,
-        WriteKind::Ignored => bank,
-        WriteKind::Ordinary(_g) => bank,
+        WriteKind::HashData | WriteKind::Ignored | WriteKind::Ordinary(_) => bank,
     }
 }

@@ -2,32 +2,14 @@
 use mathlib.Core.Path.{◌≡◌, refl, ap, ◌∙◌}
 use mathlib.Core.Bool.{Bool, true, false, cond, ◌&&◌}
 use mathlib.Core.List.{List, ◌++◌}
-use Prim.Native.Nat.{ℕ, suc, ◌+◌, ◌-◌, ◌<◌, ◌≤◌}
-use native.Mathlib.Nat.{add-sub_of_le}
+use Prim.Native.Nat.{ℕ, ◌+◌, ◌-◌, ◌<◌, ◌≤◌}
 use native.Mathlib.Omega.{arith}
 use lib.Dec.{leb, eqb}
-use lib.ListN.{length, get_or, set, take, drop, replicate, get_or-replicate, get_or-append}
-use lib.Seq.{paste, length-take-le, length_paste_head, paste-suc, get_or-take, get_or-drop, get_or-append-add, get_or-set_same, get_or-set_other}
+use lib.ListN.{length, get_or, take, drop, replicate, get_or-replicate, get_or-append}
+use lib.Seq.{length-take-le, length_paste_head, get_or-take, get_or-drop, get_or-append-add, get_or-set_same, get_or-set_other}
 use borrow.Author.Tests.{leb-true, leb-false, eqb-true, eqb-false}
 use Rattle.pcr.specs.declared.Pcr.{Pcr}
 use Rattle.pcr.specs.Bank.{pcrs, pcr, all_bytes, no_pcr, value_at, replaced, dynamic, with_dynamic, fresh, launched}
-
--- PCRs 17 to i - 1 hold v
-abbrev pub stored : List Pcr → Pcr → ℕ → List Pcr
-stored bank v i = paste bank 17 (replicate 6 v) (i - 17)
-
-pub stored_more : (bank a : List Pcr) (v : Pcr) (i : ℕ) → a ≡ stored bank v i → length bank ≡ pcrs → 17 ≤ i → i < 23 → set a i v ≡ stored bank v (i + 1)
-stored_more bank a v i e n l h =
-    let at : 17 + (i - 17) ≡ i = add-sub_of_le l in
-    let next : suc (i - 17) ≡ i + 1 - 17 = omega arith in
-    let value : get_or (replicate 6 v) (i - 17) v ≡ v = get_or-replicate 6 (i - 17) v v (omega arith) in
-    cc (paste-suc bank 17 (replicate 6 v) (i - 17) v (omega arith) (omega arith))
-
-pub stored_all : (bank a : List Pcr) (b i : ℕ) → a ≡ stored bank (pcr (all_bytes b)) i → i ≤ 23 → 23 ≤ i → a ≡ with_dynamic bank b
-unfolding with_dynamic
-stored_all bank a b i e h l =
-    let all : i ≡ 23 = omega arith in
-    cc
 
 module _ (bank : List Pcr) (v : Pcr) (p : ℕ) (n : length bank ≡ pcrs) where
   abbrev kept : List Pcr

@@ -1,31 +1,18 @@
--- The permission question by cases, and a table of masks that answers as a rule does, by one test that antt computes. Assumes nothing.
+-- A table of masks that answers as a rule does, by one test that antt computes. Assumes nothing.
 use mathlib.Core.Path.{◌≡◌, refl, sym, ap, subst, ◌∙◌}
 use mathlib.Core.Logic.{⊎_elim}
-use mathlib.Core.Bool.{Bool, true, false, beq, cond, or-true, ◌&&◌, ◌||◌}
+use mathlib.Core.Bool.{Bool, true, false, beq, cond, ◌&&◌, ◌||◌}
 use mathlib.Core.List.{List}
-use Prim.Native.Nat.{ℕ, zero, suc, ◌<◌, ◌≤◌}
+use Prim.Native.Nat.{ℕ, zero, suc, ◌<◌}
 use native.Mathlib.Nat.{le_of_suc-le-suc, not-suc-le-zero, eq-or-lt_of_le}
 use lib.Dec.{T, leb}
 use mir.Facts.{and_yes}
-use borrow.Author.Tests.{leb-false, le-leb, lt-leb}
+use borrow.Author.Tests.{leb-false}
 use Rattle.bits.proofs.TestLaws.{neither}
 use Rattle.pcr.specs.declared.Permission.{Permission}
 use Rattle.pcr.specs.Bank.{pcrs}
 use Rattle.arbiter.specs.State.{localities}
 use Rattle.pcr.specs.Permission.{refused, given, permission, by_mask}
-
-module _ (rule : ℕ → ℕ → Bool) (p x : ℕ) where
-  pub past_bank : pcrs ≤ p → refused ≡ permission rule p x
-  unfolding permission
-  past_bank h = simp (le-leb pcrs p h)
-
-  pub past_pages : localities ≤ x → refused ≡ permission rule p x
-  unfolding permission
-  past_pages h = simp (le-leb localities x h, or-true)
-
-  pub within : (b : Bool) → b ≡ rule p x → p < pcrs → x < localities → given b ≡ permission rule p x
-  unfolding permission
-  within b e h l = simp (lt-leb pcrs p h, lt-leb localities x l) (ap given e)
 
 beq_eq : (a b : Bool) → T (beq a b) → a ≡ b
 beq_eq true true t = refl

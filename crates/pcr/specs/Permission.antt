@@ -1,8 +1,8 @@
 -- The permission table, and the question asked of it. Assumes nothing.
-use Rattle.std.specs.Prelude.{ℕ, zero, suc, ◌-◌, Bool, false, cond, ◌&&◌, ◌||◌, List, [], ◌∷◌, eqb, leb, get_or}
+use Rattle.std.specs.Prelude.{ℕ, zero, suc, ◌-◌, Bool, false, None, Some, cond, ◌&&◌, ◌||◌, List, [], ◌∷◌, eqb, leb, get_or}
 use Rattle.bits.specs.Bits.{is_set}
 use Rattle.arbiter.specs.State.{localities}
-use Rattle.refusal.specs.Refusal.{accepted, question}
+use Rattle.refusal.specs.declared.Refusal.TheVariants.{Question}
 use Rattle.pcr.specs.Bank.{pcrs}
 use Rattle.pcr.specs.declared.Permission.{Permission}
 
@@ -59,11 +59,11 @@ abbrev pub by_mask : List ℕ → ℕ → ℕ → Bool
 by_mask masks p x = in_mask (get_or masks p 0) x
 
 abbrev pub given : Bool → Permission
-given answer = record { refusal = accepted; allowed = answer }
+given answer = record { refusal = None; allowed = answer }
 
 -- 'When the front says no': a refused yes/no gives no
 abbrev pub refused : Permission
-refused = record { refusal = question; allowed = false }
+refused = record { refusal = Some Question; allowed = false }
 
 -- 'When the front says no', 5: refused exactly when the PCR is above 23 or the locality above 4
 unfoldable pub permission : (ℕ → ℕ → Bool) → ℕ → ℕ → Permission

@@ -10,18 +10,17 @@ const DYNAMIC_FIRST: usize = 17;
 const DYNAMIC_END: usize = 23;
 
 // One rule for 00h and FFh, since the dynamic PCRs change together.
-pub fn with_dynamic(bank: [Pcr; PCRS], byte: u8) -> [Pcr; PCRS]
+#[tactic(auto, unfolding(crate::specs::Bank::with_dynamic))]
+pub fn with_dynamic(mut bank: [Pcr; PCRS], byte: u8) -> [Pcr; PCRS]
     ensures { result ≡ with_dynamic bank byte }
 {
     let value = Pcr { bytes: [byte; 20] };
-    let mut after = bank;
-    for i in DYNAMIC_FIRST..DYNAMIC_END {
-        after[i] = value;
-    }
-    after
+    bank[DYNAMIC_FIRST..DYNAMIC_END].fill(value);
+    bank
 }
 
 // As TPM_Init leaves them (TIS Table 5).
+#[tactic(auto, unfolding(crate::specs::Bank::fresh))]
 pub fn fresh() -> [Pcr; PCRS]
     ensures { result ≡ fresh_bank }
 {
@@ -41,17 +40,13 @@ pub fn value_at(bank: [Pcr; PCRS], p: PcrIndex) -> [u8; 20]
     requires { p.0 < pcrs }
     ensures { result ≡ value_at bank p.0 }
 {
-    let i = p.0 as usize;
-    let pcr = bank[i];
-    pcr.bytes
+    bank[usize::from(p.0)].bytes
 }
 
-pub fn replaced(bank: [Pcr; PCRS], p: PcrIndex, value: [u8; 20]) -> [Pcr; PCRS]
+pub fn replaced(mut bank: [Pcr; PCRS], p: PcrIndex, value: [u8; 20]) -> [Pcr; PCRS]
     requires { p.0 < pcrs }
     ensures { result ≡ replaced_spec bank p.0 value }
 {
-    let i = p.0 as usize;
-    let mut after = bank;
-    after[i] = Pcr { bytes: value };
-    after
+    bank[usize::from(p.0)] = Pcr { bytes: value };
+    bank
 }

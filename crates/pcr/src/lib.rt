@@ -1,23 +1,26 @@
 // The 24 PCRs: who may reset and extend each (`table`), and their values (`bank`).
 #![tactic(auto)]
 
+use refusal::Refusal;
+
 pub mod bank;
 pub mod table;
 
 pub const PCRS: usize = 24;
 
 // A type of its own, so that no locality is taken for a PCR.
-#[derive(Clone, Copy)]
+#[derive(Clone, Copy, PartialEq, Eq, Debug)]
 pub struct PcrIndex(pub u8);
 
-#[derive(Clone, Copy)]
+#[derive(Clone, Copy, PartialEq, Eq, Debug)]
 pub struct Pcr {
     pub bytes: [u8; 20],
 }
 
-// The answer to a permission question, beside its refusal number.
+// The answer to a permission question: `allowed` beside the refusal, since document 01 names what a refused one gives, no
+// (`refusals_change_nothing.value`).
 #[derive(Clone, Copy)]
 pub struct Permission {
-    pub refusal: u8,
+    pub refusal: Option<Refusal>,
     pub allowed: bool,
 }

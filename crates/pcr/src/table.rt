@@ -1,11 +1,11 @@
 // Who may reset and who may extend which PCR: a table of locality masks for each, and the questions asked of them.
-ghost use Rattle.std.specs.Prelude.{◌≡◌, ◌<◌};
-ghost use Rattle.arbiter.specs.State.{localities};
+ghost use Rattle.std.specs.Prelude.{◌≡◌};
 ghost use Rattle.pcr.specs.Permission.{in_mask, by_mask, permission as permission_spec, may_reset, may_extend};
 
 use crate::{PCRS, PcrIndex, Permission};
-use arbiter::{LOCALITIES, Locality};
+use arbiter::{LOCALITIES, Locality, Page};
 use bits::is_set;
+use refusal::Refusal;
 
 // Locality k is bit k of a mask, so that a table keeps TIS Table 4's form, one entry to a PCR.
 const RESET_LOCALITIES: [u8; PCRS] = [
@@ -64,23 +64,23 @@ const EXTEND_LOCALITIES: [u8; PCRS] = [
 
 // A PCR above 23 or a locality above 4.
 const REFUSED: Permission = Permission {
-    refusal: refusal::QUESTION,
+    refusal: Some(Refusal::Question),
     allowed: false,
 };
 
 // Public, since a mask need not come from these tables.
-pub fn in_mask(mask: u8, x: Locality) -> bool
-    requires { x.0 < localities }
-    ensures { result ≡ in_mask mask x.0 }
+pub fn in_mask(mask: u8, x: Page) -> bool
+    ensures { result ≡ in_mask mask x.locality.0 }
 {
-    is_set(mask, x.0)
+    is_set(mask, x.locality.0)
 }
 
 // Both questions differ in the table only.
+#[tactic(auto, unfolding(crate::specs::Permission::permission))]
 fn permission(masks: [u8; PCRS], p: PcrIndex, x: Locality) -> Permission
     ensures { result ≡ permission_spec (by_mask masks) p.0 x.0 }
 {
-    let i = p.0 as usize;
+    let i = usize::from(p.0);
     if PCRS <= i {
         return REFUSED;
     }
@@ -88,17 +88,19 @@ fn permission(masks: [u8; PCRS], p: PcrIndex, x: Locality) -> Permission
         return REFUSED;
     }
     Permission {
-        refusal: refusal::ACCEPTED,
-        allowed: in_mask(masks[i], x),
+        refusal: None,
+        allowed: in_mask(masks[i], Page { locality: x }),
     }
 }
 
+#[tactic(auto, using(crate::proofs::MaskTable::by_masks), unfolding(crate::specs::Permission::may_reset, crate::specs::Permission::permission_table))]
 pub fn may_reset(p: PcrIndex, x: Locality) -> Permission
     ensures { result ≡ permission_spec may_reset p.0 x.0 }
 {
     permission(RESET_LOCALITIES, p, x)
 }
 
+#[tactic(auto, using(crate::proofs::MaskTable::by_masks), unfolding(crate::specs::Permission::may_extend, crate::specs::Permission::permission_table))]
 pub fn may_extend(p: PcrIndex, x: Locality) -> Permission
     ensures { result ≡ permission_spec may_extend p.0 x.0 }
 {

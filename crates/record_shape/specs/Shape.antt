@@ -1,10 +1,9 @@
 -- When a record is in shape (document 01, 'When the front says no', "Out of shape: .."), a named clause for each part of that
 -- sentence, true where the record is in shape; and refusal 2. Assumes nothing.
-use Rattle.std.specs.Prelude.{ℕ, Bool, true, false, not, ◌&&◌, ◌||◌, List, length, get_or, leb, ltb, eqb}
+use Rattle.std.specs.Prelude.{ℕ, Bool, true, false, not, ◌&&◌, ◌||◌, List, length, get_or, leb, ltb, eqb, Option, Some, None}
 use Rattle.reg_layout.specs.Offsets.{hash_locality}
 use Rattle.arbiter.specs.State.{localities, any_waits}
-use Rattle.arbiter.specs.declared.Owner.{Owner}
-use Rattle.arbiter.specs.declared.Owner.TheVariants.{Nobody, Held}
+use Rattle.arbiter.specs.declared.Locality.{Locality}
 use Rattle.record.specs.Limits.{fifo_least, fifo_greatest, header, hash_limit}
 use Rattle.record.specs.Record.{hash_progress}
 use Rattle.record.specs.declared.Control.{Control}
@@ -31,19 +30,19 @@ unfoldable pub lengths_allowed : Lengths → Bool
 lengths_allowed l = leb fifo_least l.write && leb l.write fifo_greatest && eqb l.write l.read
 
 -- "active above 4"
-abbrev pub active_known : Owner → Bool
-active_known Nobody = true
-active_known (Held y) = ltb y.0 localities
+abbrev pub active_known : Option Locality → Bool
+active_known None = true
+active_known (Some y) = ltb y.0 localities
 
 -- "a request waits while none is active"
-abbrev pub free_unasked : Owner → List Bool → Bool
-free_unasked Nobody waiting = not (any_waits waiting)
-free_unasked (Held y) waiting = true
+abbrev pub free_unasked : Option Locality → List Bool → Bool
+free_unasked None waiting = not (any_waits waiting)
+free_unasked (Some y) waiting = true
 
 -- "the active locality waits"
-abbrev pub active_unasked : Owner → List Bool → Bool
-active_unasked Nobody waiting = true
-active_unasked (Held y) waiting = not (get_or waiting y.0 false)
+abbrev pub active_unasked : Option Locality → List Bool → Bool
+active_unasked None waiting = true
+active_unasked (Some y) waiting = not (get_or waiting y.0 false)
 
 abbrev pub idle : Phase → Bool
 idle Idle = true
@@ -53,9 +52,9 @@ idle (Execution n) = false
 idle (Completion n k) = false
 
 -- "a phase other than Idle with none active or a sequence open"
-abbrev pub phase_placed : Phase → Owner → Bool → Bool
-phase_placed p Nobody sequence = idle p
-phase_placed p (Held y) sequence = idle p || not sequence
+abbrev pub phase_placed : Phase → Option Locality → Bool → Bool
+phase_placed p None sequence = idle p
+phase_placed p (Some y) sequence = idle p || not sequence
 
 -- "Reception count outside 1..C; Execution count outside 10..C; answer length outside 10..C or bytes read above it"
 abbrev pub counts_fit : Phase → ℕ → Bool
@@ -66,9 +65,9 @@ counts_fit (Execution n) c = leb header n && leb n c
 counts_fit (Completion n k) c = leb header n && leb n c && leb k n
 
 -- "sequence open and 4 not active"
-abbrev pub sequence_placed : Bool → Owner → Bool
-sequence_placed sequence Nobody = not sequence
-sequence_placed sequence (Held y) = not sequence || eqb y.0 hash_locality
+abbrev pub sequence_placed : Bool → Option Locality → Bool
+sequence_placed sequence None = not sequence
+sequence_placed sequence (Some y) = not sequence || eqb y.0 hash_locality
 
 -- "over 1,048,576 hash bytes counted, or any with the sequence closed"
 abbrev pub hash_counted : Bool → ℕ → Bool

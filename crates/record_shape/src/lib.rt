@@ -2,10 +2,10 @@
 #![tactic(auto)]
 
 ghost use Rattle.std.specs.Prelude.{◌≡◌};
-ghost use Rattle.record_shape.specs.Shape.{shape_view, view_of, lengths_allowed, idle as idle_spec, phase_fits, hash_fits, in_shape};
+ghost use Rattle.record_shape.specs.Shape.{shape_view, view_of, lengths_of, lengths_allowed, idle as idle_spec, phase_fits, hash_fits, in_shape};
 
 use arbiter::access::any_waits;
-use arbiter::{Arbiter, LOCALITIES, Owner};
+use arbiter::{Arbiter, LOCALITIES};
 use record::limits::{FIFO_GREATEST, FIFO_LEAST, HASH_LIMIT, HEADER};
 use record::{Control, Device, HashProgress, Phase, hash_progress};
 use reg_layout::HASH_LOCALITY;
@@ -15,6 +15,15 @@ use reg_layout::HASH_LOCALITY;
 pub struct Lengths {
     pub write: usize,
     pub read: usize,
+}
+
+pub fn lengths_of(write_fifo: &[u8], read_fifo: &[u8]) -> Lengths
+    ensures { result ≡ lengths_of write_fifo.now read_fifo.now }
+{
+    Lengths {
+        write: write_fifo.len(),
+        read: read_fifo.len(),
+    }
 }
 
 // What the shape rule reads of a record.
@@ -28,9 +37,8 @@ pub struct ShapeView {
 pub fn shape_view(control: Control, phase: Phase, hash: HashProgress) -> ShapeView
     ensures { result ≡ shape_view control phase hash }
 {
-    let arbiter = control.arbiter;
     ShapeView {
-        arbiter,
+        arbiter: control.arbiter,
         phase,
         hash,
     }
@@ -40,30 +48,21 @@ pub fn shape_view(control: Control, phase: Phase, hash: HashProgress) -> ShapeVi
 pub fn view_of(device: Device) -> ShapeView
     ensures { result ≡ view_of device }
 {
-    let control = device.control;
-    let phase = device.phase;
-    let launch = device.launch;
-    shape_view(control, phase, hash_progress(launch))
+    shape_view(device.control, device.phase, hash_progress(device.launch))
 }
 
 // Not 2: both FIFOs have one allowed length.
+#[tactic(auto, unfolding(crate::specs::Shape::lengths_allowed))]
 pub fn lengths_allowed(l: Lengths) -> bool
     ensures { result ≡ lengths_allowed l }
 {
-    let write = l.write;
-    (FIFO_LEAST <= write) & (write <= FIFO_GREATEST as usize) & (write == l.read)
+    FIFO_LEAST <= l.write && l.write <= usize::from(FIFO_GREATEST) && l.write == l.read
 }
 
 fn idle(p: Phase) -> bool
     ensures { result ≡ idle_spec p }
 {
-    match p {
-        Phase::Idle => true,
-        Phase::Ready => false,
-        Phase::Reception(_n) => false,
-        Phase::Execution(_n) => false,
-        Phase::Completion(_n, _k) => false,
-    }
+    matches!(p, Phase::Idle)
 }
 
 // The phase beside the sequence, with FIFOs of c bytes, where some locality is active.
@@ -73,9 +72,9 @@ fn phase_fits(p: Phase, sequence: bool, c: u16) -> bool
     match p {
         Phase::Idle => true,
         Phase::Ready => !sequence,
-        Phase::Reception(n) => !sequence & ((1 <= n) & (n <= c)),
-        Phase::Execution(n) => !sequence & ((HEADER <= n) & (n <= c)),
-        Phase::Completion(n, k) => !sequence & ((HEADER <= n) & (n <= c) & (k <= n)),
+        Phase::Reception(n) => !sequence && 1 <= n && n <= c,
+        Phase::Execution(n) => !sequence && HEADER <= n && n <= c,
+        Phase::Completion(n, k) => !sequence && HEADER <= n && n <= c && k <= n,
     }
 }
 
@@ -84,34 +83,25 @@ fn hash_fits(y: u8, h: HashProgress) -> bool
     ensures { result ≡ hash_fits y h }
 {
     if h.sequence {
-        return (y == HASH_LOCALITY) & (h.count <= HASH_LIMIT);
+        return y == HASH_LOCALITY && h.count <= HASH_LIMIT;
     }
     h.count == 0
 }
 
 // Not 6, with FIFOs of c bytes. One look at the owner, then at the sequence, then at the phase: every cycle comes through here.
+#[tactic(auto, unfolding(crate::specs::Shape::in_shape))]
 pub fn in_shape(v: ShapeView, c: u16) -> bool
     ensures { result ≡ in_shape v c }
 {
-    let arbiter = v.arbiter;
-    let phase = v.phase;
-    let hash = v.hash;
-    let owner = arbiter.active;
-    let waiting = arbiter.waiting;
-    match owner {
-        Owner::Nobody => { !any_waits(waiting) & idle(phase) & !hash.sequence & (hash.count == 0) }
-        Owner::Held(y) => {
-            if LOCALITIES <= y.0 {
-                return false;
-            }
-            let i = y.0 as usize;
-            if waiting[i] {
-                return false;
-            }
-            if !hash_fits(y.0, hash) {
-                return false;
-            }
-            phase_fits(phase, hash.sequence, c)
+    match v.arbiter.active {
+        None => {
+            !any_waits(v.arbiter.waiting) && idle(v.phase) && !v.hash.sequence && v.hash.count == 0
+        }
+        Some(y) => {
+            y.0 < LOCALITIES
+                && !v.arbiter.waiting[usize::from(y.0)]
+                && hash_fits(y.0, v.hash)
+                && phase_fits(v.phase, v.hash.sequence, c)
         }
     }
 }

@@ -1,5 +1,7 @@
--- The numbers of document 01's table 'When the front says no'. Assumes nothing.
-use Rattle.std.specs.Prelude.{ℕ}
+-- The numbers of document 01's table 'When the front says no', and the number of each refusal of the code. Assumes nothing.
+use Rattle.std.specs.Prelude.{ℕ, Bool, true, false, Option, None, Some}
+use Rattle.refusal.specs.declared.Refusal.{Refusal}
+use Rattle.refusal.specs.declared.Refusal.TheVariants.{Offset, FifoLength, Run, AnswerLength, Question, Shape, HashLength}
 
 -- accepted
 abbrev pub accepted : ℕ
@@ -32,3 +34,22 @@ shape = 6
 -- hash byte number 1,048,577 or later
 abbrev pub hash_length : ℕ
 hash_length = 7
+
+-- "a definition that lists this paper's number for each of its cases"
+abbrev pub number : Refusal → ℕ
+number Offset = offset
+number FifoLength = fifo_length
+number Run = run
+number AnswerLength = answer_length
+number Question = question
+number Shape = shape
+number HashLength = hash_length
+
+-- the number of what a call is refused for, if it is
+abbrev pub number_of : Option Refusal → ℕ
+number_of None = accepted
+number_of (Some r) = number r
+
+abbrev pub accepts : Option Refusal → Bool
+accepts None = true
+accepts (Some r) = false

@@ -1,18 +1,69 @@
-// The numbers of document 01's table 'When the front says no', each named once.
+// The refusals of document 01's table 'When the front says no', each with the number that the table gives it.
 #![tactic(auto)]
 
-pub const ACCEPTED: u8 = 0;
+ghost use Rattle.std.specs.Prelude.{◌≡◌};
+ghost use Rattle.refusal.specs.Refusal.{number as number_spec, number_of as number_of_spec};
 
-pub const OFFSET: u8 = 1;
+use std::fmt;
 
-pub const FIFO_LENGTH: u8 = 2;
+// What the front says no to. A call that is accepted has no refusal.
+#[derive(Clone, Copy, Debug, PartialEq, Eq)]
+pub enum Refusal {
+    // 1: bus offset above 4FFFh
+    Offset = 1,
+    // 2: a FIFO length outside 1,024..8,192, or the two differ
+    FifoLength = 2,
+    // 3: engine answer while not in Execution, or with another run number
+    Run = 3,
+    // 4: engine answer shorter than 10 or longer than C
+    AnswerLength = 4,
+    // 5: question with PCR above 23 or locality above 4
+    Question = 5,
+    // 6: record out of shape (the interrupt line question aside)
+    Shape = 6,
+    // 7: hash byte number 1,048,577 or later
+    HashLength = 7,
+}
 
-pub const RUN: u8 = 3;
+impl Refusal {
+    pub fn number(self) -> u8
+        ensures { result ≡ number_spec self }
+    {
+        self as u8
+    }
+}
 
-pub const ANSWER_LENGTH: u8 = 4;
+impl From<Refusal> for u8 {
+    ghost from_gives = { λ r n. n ≡ number_spec r };
 
-pub const QUESTION: u8 = 5;
+    fn from(refusal: Refusal) -> u8 {
+        refusal.number()
+    }
+}
 
-pub const SHAPE: u8 = 6;
+impl fmt::Display for Refusal {
+    fn fmt<W: fmt::Write>(&self, f: &mut fmt::Formatter<W>) -> fmt::Result {
+        match self {
+            Refusal::Offset => write!(f, "bus offset above 4FFFh"),
+            Refusal::FifoLength => write!(
+                f,
+                "a FIFO length outside 1,024..8,192, or the two differ"
+            ),
+            Refusal::Run => write!(
+                f,
+                "engine answer while not in Execution, or with another run number"
+            ),
+            Refusal::AnswerLength => write!(f, "engine answer shorter than 10 or longer than C"),
+            Refusal::Question => write!(f, "question with PCR above 23 or locality above 4"),
+            Refusal::Shape => write!(f, "record out of shape (the interrupt line question aside)"),
+            Refusal::HashLength => write!(f, "hash byte number 1,048,577 or later"),
+        }
+    }
+}
 
-pub const HASH_LENGTH: u8 = 7;
+// A call's refusal number: 0 where it was accepted.
+pub fn number_of(refusal: Option<Refusal>) -> u8
+    ensures { result ≡ number_of_spec refusal }
+{
+    refusal.map_or(0, Refusal::number)
+}

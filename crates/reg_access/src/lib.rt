@@ -1,12 +1,11 @@
 // What ACCESS reads (document 01, 'Who holds the device'; document 02, W2; TIS 11.3.10).
 #![tactic(auto)]
 
-ghost use Rattle.std.specs.Prelude.{◌≡◌, ◌<◌};
-ghost use Rattle.arbiter.specs.State.{localities};
+ghost use Rattle.std.specs.Prelude.{◌≡◌};
 ghost use Rattle.reg_access.specs.Access.{pending_request, access_bits, access_byte};
 
 use arbiter::access::holds;
-use arbiter::{Arbiter, LOCALITIES, Locality};
+use arbiter::{Arbiter, Page};
 use bits::flag_at;
 use reg_layout::access::{
     ACTIVE_LOCALITY, BEEN_SEIZED, PENDING_REQUEST, REQUEST_USE, TPM_ESTABLISHMENT,
@@ -14,18 +13,16 @@ use reg_layout::access::{
 };
 
 // A locality other than x waits; x's own request shows as requestUse.
-fn pending_request(s: Arbiter, x: Locality) -> bool
-    ensures { result ≡ pending_request s x }
+fn pending_request(s: Arbiter, x: Page) -> bool
+    ensures { result ≡ pending_request s x.locality }
 {
-    let mut pending = false;
-    for y in 0..LOCALITIES {
-        let i = y as usize;
-        pending = pending | (s.waiting[i] & (y != x.0));
-    }
-    pending
+    let own = x.index();
+    let mut flags = s.waiting.iter().enumerate();
+    flags.any(|(y, waits)| *waits & (y != own))
 }
 
 // The byte of those five flags.
+#[tactic(auto, unfolding(crate::specs::Access::access_bits))]
 fn access_bits(active: bool, seized: bool, pending: bool, waits: bool, established: bool) -> u8
     ensures { result ≡ access_bits active seized pending waits established }
 {
@@ -35,17 +32,14 @@ fn access_bits(active: bool, seized: bool, pending: bool, waits: bool, establish
     valid + high + asked + flag_at(!established, TPM_ESTABLISHMENT)
 }
 
-pub fn access_byte(s: Arbiter, established: bool, x: Locality) -> u8
-    requires { x.0 < localities }
-    ensures { result ≡ access_byte s established x }
+pub fn access_byte(s: Arbiter, established: bool, x: Page) -> u8
+    ensures { result ≡ access_byte s established x.locality }
 {
-    let i = x.0 as usize;
-    let owner = s.active;
     access_bits(
-        holds(owner, x),
-        s.seized[i],
+        holds(s.active, x.locality),
+        s.seized[x.index()],
         pending_request(s, x),
-        s.waiting[i],
+        s.waiting[x.index()],
         established,
     )
 }

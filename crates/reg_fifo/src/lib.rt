@@ -2,9 +2,8 @@
 #![tactic(auto)]
 
 ghost use Rattle.std.specs.Prelude.{◌≡◌, ◌≤◌, length};
-ghost use Rattle.record.specs.declared.Phase.TheVariants.{Completion};
 ghost use Rattle.reg_fifo.specs.declared.FifoAction.TheVariants.{Store};
-ghost use Rattle.reg_fifo.specs.Fifo.{clear_fifo, put_answer, update_write_fifo, update_read_fifo, fifo_byte, after_read};
+ghost use Rattle.reg_fifo.specs.Fifo.{clear_fifo, update_write_fifo, update_read_fifo, fifo_byte, after_read};
 
 use record::Phase;
 
@@ -21,29 +20,16 @@ pub enum FifoAction {
 pub fn clear_fifo(b: &mut [u8])
     ensures { b.new ≡ clear_fifo b.old }
 {
-    let mut i: usize = 0;
-    while i < b.len() {
-        b[i] = 0;
-        i += 1;
-    }
-}
-
-// The answer at the front, 00h after it.
-fn put_answer(b: &mut [u8], a: &[u8])
-    requires { length a.now ≤ length b.old }
-    ensures { b.new ≡ put_answer a.now b.old }
-{
-    let n = a.len();
-    b[..n].copy_from_slice(a);
-    clear_fifo(&mut b[n..]);
+    b.fill(0);
 }
 
 fn store(w: &mut [u8], n: u16, v: u8)
     ensures { w.new ≡ update_write_fifo (Store n) v w.old }
 {
-    let i = n as usize;
-    if i < w.len() {
-        w[i] = v;
+    let place = usize::from(n);
+    // No `get_mut`: its contract says nothing of the slice that it leaves.
+    if place < w.len() {
+        w[place] = v;
     }
 }
 
@@ -52,9 +38,8 @@ fn update_write_fifo(f: FifoAction, w: &mut [u8], v: u8)
 {
     match f {
         FifoAction::Keep => {}
-        FifoAction::Clear => clear_fifo(w),
+        FifoAction::Clear | FifoAction::Complete => clear_fifo(w),
         FifoAction::Store(n) => store(w, n, v),
-        FifoAction::Complete => clear_fifo(w),
     }
 }
 
@@ -63,10 +48,13 @@ fn update_read_fifo(f: FifoAction, r: &mut [u8], a: &[u8])
     ensures { r.new ≡ update_read_fifo f a.now r.old }
 {
     match f {
-        FifoAction::Keep => {}
+        FifoAction::Keep | FifoAction::Store(_) => {}
         FifoAction::Clear => clear_fifo(r),
-        FifoAction::Store(_n) => {}
-        FifoAction::Complete => put_answer(r, a),
+        // The answer at the front, 00h after it.
+        FifoAction::Complete => {
+            r[..a.len()].copy_from_slice(a);
+            r[a.len()..].fill(0);
+        }
     }
 }
 
@@ -84,25 +72,9 @@ pub fn fifo_byte(p: Phase, r: &[u8]) -> u8
     ensures { result ≡ fifo_byte p r.now }
 {
     match p {
-        Phase::Idle => 0xff,
-        Phase::Ready => 0xff,
-        Phase::Reception(_n) => 0xff,
-        Phase::Execution(_n) => 0xff,
-        Phase::Completion(n, k) => unread_byte(n, k, r),
+        Phase::Completion(n, k) if k < n => r.get(usize::from(k)).copied().unwrap_or(0),
+        _ => 0xff,
     }
-}
-
-fn unread_byte(n: u16, k: u16, r: &[u8]) -> u8
-    ensures { result ≡ fifo_byte (Completion n k) r.now }
-{
-    let i = k as usize;
-    if n <= k {
-        return 0xff;
-    }
-    if i < r.len() {
-        return r[i];
-    }
-    0
 }
 
 // The phase after it.
@@ -110,15 +82,7 @@ pub fn after_read(p: Phase) -> Phase
     ensures { result ≡ after_read p }
 {
     match p {
-        Phase::Idle => p,
-        Phase::Ready => p,
-        Phase::Reception(n) => Phase::Reception(n),
-        Phase::Execution(n) => Phase::Execution(n),
-        Phase::Completion(n, k) => {
-            if n <= k {
-                return p;
-            }
-            Phase::Completion(n, k + 1)
-        }
+        Phase::Completion(n, k) if k < n => Phase::Completion(n, k + 1),
+        _ => p,
     }
 }

@@ -1,7 +1,8 @@
 -- The interrupt registers and the line (document 01, 'Interrupts'; TIS 12), and the capability byte. Assumes nothing.
-use Rattle.std.specs.Prelude.{ℕ, ◌+◌, Bool, true, cond, not, ◌&&◌, ◌||◌, eqb}
+use Rattle.std.specs.Prelude.{ℕ, ◌+◌, Bool, true, cond, ◌&&◌, eqb}
 use Rattle.bits.specs.Bits.{is_set, flag_at}
 use Rattle.reg_layout.specs.InterruptBits as interrupt
+use Rattle.record.specs.Causes.{without, either, share}
 use Rattle.record.specs.declared.Causes.{Causes}
 use Rattle.record.specs.declared.Interrupts.{Interrupts}
 
@@ -39,26 +40,6 @@ write_enable s i v =
     cond (eqb i 0) (record { global = s.global; enable = causes_of v; status = s.status })
     (cond (eqb i interrupt.global_byte) (record { global = is_set interrupt.global_int_enable v; enable = s.enable; status = s.status })
     s)
-
--- the flags of k that l does not have; those of either; is there one that both have
-abbrev pub without : Causes → Causes → Causes
-without k l =
-    record {
-      command_ready = k.command_ready && not l.command_ready;
-      locality_change = k.locality_change && not l.locality_change;
-      data_avail = k.data_avail && not l.data_avail;
-    }
-
-abbrev pub either : Causes → Causes → Causes
-either k l =
-    record {
-      command_ready = k.command_ready || l.command_ready;
-      locality_change = k.locality_change || l.locality_change;
-      data_avail = k.data_avail || l.data_avail;
-    }
-
-abbrev pub share : Causes → Causes → Bool
-share k l = k.command_ready && l.command_ready || k.locality_change && l.locality_change || k.data_avail && l.data_avail
 
 abbrev pub with_status : Interrupts → Causes → Interrupts
 with_status s k = record { global = s.global; enable = s.enable; status = k }

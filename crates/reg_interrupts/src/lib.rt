@@ -19,36 +19,29 @@ fn cause_bits(k: Causes) -> u8
         + flag_at(k.data_avail, DATA_AVAIL)
 }
 
+#[tactic(auto, unfolding(crate::specs::Interrupts::enable_byte))]
 pub fn enable_byte(s: Interrupts, i: u8) -> u8
     ensures { result ≡ enable_byte s i }
 {
-    if i == 0 {
-        let k = s.enable;
-        return cause_bits(k) + flag_at(true, LOW_LEVEL);
+    match i {
+        0 => cause_bits(s.enable) + flag_at(true, LOW_LEVEL),
+        GLOBAL_BYTE => flag_at(s.global, GLOBAL_INT_ENABLE),
+        _ => 0,
     }
-    if i == GLOBAL_BYTE {
-        return flag_at(s.global, GLOBAL_INT_ENABLE);
-    }
-    0
 }
 
+#[tactic(auto, unfolding(crate::specs::Interrupts::status_byte))]
 pub fn status_byte(s: Interrupts, i: u8) -> u8
     ensures { result ≡ status_byte s i }
 {
-    if i == 0 {
-        let k = s.status;
-        return cause_bits(k);
-    }
-    0
+    if i == 0 { cause_bits(s.status) } else { 0 }
 }
 
+#[tactic(auto, unfolding(crate::specs::Interrupts::capability_byte))]
 pub fn capability_byte(i: u8) -> u8
     ensures { result ≡ capability_byte i }
 {
-    if i == 0 {
-        return 0x95;
-    }
-    0
+    if i == 0 { 0x95 } else { 0 }
 }
 
 // The causes whose bits are set in a byte.
@@ -62,72 +55,49 @@ fn causes_of(v: u8) -> Causes
     }
 }
 
+#[tactic(auto, unfolding(crate::specs::Interrupts::write_enable))]
 pub fn write_enable(s: Interrupts, i: u8, v: u8) -> Interrupts
     ensures { result ≡ write_enable s i v }
 {
-    let enable = s.enable;
-    let status = s.status;
-    if i == 0 {
-        return Interrupts {
-            global: s.global,
+    match i {
+        0 => Interrupts {
             enable: causes_of(v),
-            status,
-        };
-    }
-    if i == GLOBAL_BYTE {
-        return Interrupts {
+            ..s
+        },
+        GLOBAL_BYTE => Interrupts {
             global: is_set(v, GLOBAL_INT_ENABLE),
-            enable,
-            status,
-        };
+            ..s
+        },
+        _ => s,
     }
-    s
 }
 
+#[tactic(auto, unfolding(crate::specs::Interrupts::write_status))]
 pub fn write_status(s: Interrupts, i: u8, v: u8) -> Interrupts
     ensures { result ≡ write_status s i v }
 {
-    let enable = s.enable;
-    let status = s.status;
-    if i == 0 {
-        let k = causes_of(v);
-        return Interrupts {
-            global: s.global,
-            enable,
-            status: Causes {
-                command_ready: status.command_ready & !k.command_ready,
-                locality_change: status.locality_change & !k.locality_change,
-                data_avail: status.data_avail & !k.data_avail,
-            },
-        };
+    if i != 0 {
+        return s;
     }
-    s
+    Interrupts {
+        status: s.status.without(causes_of(v)),
+        ..s
+    }
 }
 
 // The causes given are set in INT_STATUS.
 pub fn mark(s: Interrupts, k: Causes) -> Interrupts
     ensures { result ≡ mark_spec s k }
 {
-    let enable = s.enable;
-    let t = s.status;
     Interrupts {
-        global: s.global,
-        enable,
-        status: Causes {
-            command_ready: t.command_ready | k.command_ready,
-            locality_change: t.locality_change | k.locality_change,
-            data_avail: t.data_avail | k.data_avail,
-        },
+        status: s.status.either(k),
+        ..s
     }
 }
 
+#[tactic(auto, unfolding(crate::specs::Interrupts::line_asserted))]
 pub fn line_asserted(s: Interrupts) -> bool
     ensures { result ≡ line_asserted s }
 {
-    let e = s.enable;
-    let t = s.status;
-    s.global
-        & (e.command_ready & t.command_ready
-            | e.locality_change & t.locality_change
-            | e.data_avail & t.data_avail)
+    s.global && s.enable.share(s.status)
 }

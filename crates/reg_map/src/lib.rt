@@ -1,8 +1,7 @@
 // Which register lies where in a page (document 01, 'The pages'; TIS section 10).
 #![tactic(auto)]
 
-ghost use Rattle.std.specs.Prelude.{◌≡◌, cond, eqb, ltb};
-ghost use Rattle.reg_map.specs.declared.Register.TheVariants.{Sts, Reserved};
+ghost use Rattle.std.specs.Prelude.{◌≡◌};
 ghost use Rattle.reg_map.specs.Map.{register_at, identity_at};
 
 use reg_layout::{
@@ -10,7 +9,7 @@ use reg_layout::{
 };
 
 // A register of a page; the number is the byte within it, low byte first. A read knows no others, so hash start and end are not here.
-#[derive(Clone, Copy)]
+#[derive(Clone, Copy, PartialEq, Eq, Debug)]
 pub enum Register {
     Access,
     IntEnable(u8),
@@ -38,51 +37,31 @@ const STS_FOUR: u16 = STS / 4;
 
 const DATA_FIFO_FOUR: u16 = DATA_FIFO / 4;
 
+const IDENTITY_LAST: u16 = IDENTITY + 4;
+
+// ACCESS and INT_VECTOR have the first byte of their four, STS the first three; what is left of a four is reserved, as all else is.
+#[tactic(auto, unfolding(crate::specs::Map::register_at))]
 pub fn register_at(at: u16) -> Register
     ensures { result ≡ register_at at }
 {
     let i = (at % 4) as u8;
     match at / 4 {
-        ACCESS_FOUR => first_of_four(i, Register::Access),
+        ACCESS_FOUR if i == 0 => Register::Access,
         INT_ENABLE_FOUR => Register::IntEnable(i),
-        INT_VECTOR_FOUR => first_of_four(i, Register::IntVector),
+        INT_VECTOR_FOUR if i == 0 => Register::IntVector,
         INT_STATUS_FOUR => Register::IntStatus(i),
         INTF_CAPABILITY_FOUR => Register::IntfCapability(i),
-        STS_FOUR => sts_at(i),
+        STS_FOUR if i < 3 => Register::Sts(i),
         DATA_FIFO_FOUR => Register::DataFifo,
         _ => identity_at(at),
     }
 }
 
-// A register of one byte.
-fn first_of_four(i: u8, r: Register) -> Register
-    ensures { result ≡ cond (eqb i 0) r Reserved }
-{
-    if i == 0 {
-        return r;
-    }
-    Register::Reserved
-}
-
-// STS has three.
-fn sts_at(i: u8) -> Register
-    ensures { result ≡ cond (ltb i 3) (Sts i) Reserved }
-{
-    if i < 3 {
-        return Register::Sts(i);
-    }
-    Register::Reserved
-}
-
 fn identity_at(at: u16) -> Register
     ensures { result ≡ identity_at at }
 {
-    if at < IDENTITY {
-        return Register::Reserved;
+    match at {
+        IDENTITY..=IDENTITY_LAST => Register::Identity((at - IDENTITY) as u8),
+        _ => Register::Reserved,
     }
-    let i = at - IDENTITY;
-    if i < 5 {
-        return Register::Identity(i as u8);
-    }
-    Register::Reserved
 }

@@ -1,39 +1,51 @@
 // The declared size of a command, and when more of it is expected.
-ghost use Rattle.std.specs.Prelude.{◌≡◌, ◌<◌, ◌≤◌, length};
-ghost use Rattle.reg_sts_read.specs.Size.{size_field, declared_size, expects_after, expects as expects_spec};
+ghost use Rattle.std.specs.Prelude.{◌≡◌, ◌<◌, ◌≤◌, ◌^◌, length};
+ghost use Rattle.reg_sts_read.specs.Size.{size_field, declared_size, sizes_of, expects_after, expects};
 
 use record::Phase;
 
 // The bytes of a command up to the end of its size.
 const SIZE_FIELD: u16 = 6;
 
-fn wide(b: u8) -> u32
-    ensures { (result ≡ b) × (result < 256) }
-{
-    b as u32
-}
-
+#[tactic(auto, unfolding(crate::specs::Size::declared_size))]
 pub fn declared_size(w: &[u8]) -> u32
     requires { size_field ≤ length w.now }
     ensures { result ≡ declared_size w.now }
 {
-    wide(w[2]) * 0x100_0000 + wide(w[3]) * 0x1_0000 + wide(w[4]) * 0x100 + wide(w[5])
+    u32::from_be_bytes([w[2], w[3], w[4], w[5]])
 }
 
-pub fn expects_after(n: u16, size: u32, c: u16) -> bool
-    ensures { result ≡ expects_after n size c }
-{
-    (n < SIZE_FIELD) | (((n as u32) < size) & (n < c))
+// What bounds the command in the WriteFIFO: the size that it declares, and C, the FIFO's length.
+#[derive(Clone, Copy, PartialEq, Eq, Debug)]
+pub struct Sizes {
+    pub declared: u32,
+    pub fifo: u16,
 }
 
-pub fn expects(p: Phase, size: u32, c: u16) -> bool
-    ensures { result ≡ expects_spec p size c }
-{
-    match p {
-        Phase::Idle => false,
-        Phase::Ready => false,
-        Phase::Reception(n) => expects_after(n, size, c),
-        Phase::Execution(_n) => false,
-        Phase::Completion(_n, _k) => false,
+impl Sizes {
+    pub fn of(write_fifo: &[u8]) -> Sizes
+        requires { (size_field ≤ length write_fifo.now) × (length write_fifo.now < 2 ^ 16) }
+        ensures { result ≡ sizes_of write_fifo.now }
+    {
+        Sizes {
+            declared: declared_size(write_fifo),
+            fifo: write_fifo.len() as u16,
+        }
+    }
+
+    // After n bytes.
+    pub fn expects_after(self, n: u16) -> bool
+        ensures { result ≡ expects_after n self.declared self.fifo }
+    {
+        n < SIZE_FIELD || u32::from(n) < self.declared && n < self.fifo
+    }
+
+    pub fn expects(self, p: Phase) -> bool
+        ensures { result ≡ expects p self.declared self.fifo }
+    {
+        match p {
+            Phase::Reception(n) => self.expects_after(n),
+            _ => false,
+        }
     }
 }

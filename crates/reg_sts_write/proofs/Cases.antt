@@ -1,5 +1,5 @@
 -- What a command bit of STS, or a byte for the FIFO, can come to. Assumes nothing.
-use Rattle.std.proofs.Common.{◌≡◌, ℕ, ◌+◌, Bool, true, false, cond, ◌&&◌, leb, length, refl}
+use Rattle.std.proofs.Common.{◌≡◌, ℕ, ◌+◌, Bool, true, false, cond, ◌&&◌, leb, length, refl, Option, None, Some}
 use Rattle.record.specs.Limits.{header}
 use Rattle.record.specs.declared.Phase.{Phase}
 use Rattle.record.specs.declared.Phase.TheVariants.{Idle, Ready, Reception, Execution, Completion}
@@ -7,7 +7,7 @@ use Rattle.reg_fifo.specs.declared.FifoAction.TheVariants.{Keep, Clear, Store}
 use Rattle.reg_sts_read.specs.Size.{expects_after}
 use Rattle.reg_sts_write.specs.declared.Commanded.{Commanded}
 use Rattle.reg_sts_write.specs.declared.sts.StsCommand.{StsCommand}
-use Rattle.reg_sts_write.specs.declared.sts.StsCommand.TheVariants.{Nothing, CommandReady, TpmGo, ResponseRetry}
+use Rattle.reg_sts_write.specs.declared.sts.StsCommand.TheVariants.{CommandReady, TpmGo, ResponseRetry}
 use Rattle.reg_sts_write.specs.Completion.{commanded, without_cause, ignored, enter_completion, bad_size}
 use Rattle.reg_sts_write.specs.Sts.{command_ready_cause, command_ready, next_run, tpm_go, response_retry, commanded_by, write_data_fifo}
 
@@ -53,11 +53,11 @@ module _ (run size c : ℕ) where
   retry_case (Execution n) = nothing
   retry_case (Completion n k) = retries
 
-  pub order_case : (j : StsCommand) (p : Phase) → CommandCase run size c p (commanded_by j p run size c)
-  order_case Nothing p = nothing
-  order_case CommandReady p = ready_case p
-  order_case TpmGo p = go_case p
-  order_case ResponseRetry p = retry_case p
+  pub order_case : (j : Option StsCommand) (p : Phase) → CommandCase run size c p (commanded_by j p run size c)
+  order_case None p = nothing
+  order_case (Some CommandReady) p = ready_case p
+  order_case (Some TpmGo) p = go_case p
+  order_case (Some ResponseRetry) p = retry_case p
 
   pub fifo_case : (p : Phase) → CommandCase run size c p (write_data_fifo p run size c)
   fifo_case Idle = nothing

@@ -1,2 +1,1 @@
-pub mod StsLaws
 pub mod Cases

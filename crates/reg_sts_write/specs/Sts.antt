@@ -1,6 +1,6 @@
 -- STS and the FIFO register (document 01, 'Commands'; TIS 11.3.11, 11.5): what the command bits of STS do, and what a FIFO write does to
 -- the phase. Assumes nothing.
-use Rattle.std.specs.Prelude.{ℕ, ◌+◌, ◌%◌, ◌^◌, true, false, cond, ◌&&◌, length, ◌==◌, nat_le}
+use Rattle.std.specs.Prelude.{ℕ, ◌+◌, ◌%◌, ◌^◌, true, false, cond, ◌&&◌, length, ◌==◌, nat_le, Option, None, Some}
 use Rattle.bits.specs.Bits.{bit}
 use Rattle.reg_layout.specs.StsBits as sts
 use Rattle.record.specs.Limits.{header}
@@ -11,16 +11,16 @@ use Rattle.reg_sts_read.specs.Size.{expects_after}
 use Rattle.reg_fifo.specs.declared.FifoAction.TheVariants.{Keep, Clear, Store}
 use Rattle.reg_sts_write.specs.declared.Commanded.{Commanded}
 use Rattle.reg_sts_write.specs.declared.sts.StsCommand.{StsCommand}
-use Rattle.reg_sts_write.specs.declared.sts.StsCommand.TheVariants.{Nothing, CommandReady, TpmGo, ResponseRetry}
+use Rattle.reg_sts_write.specs.declared.sts.StsCommand.TheVariants.{CommandReady, TpmGo, ResponseRetry}
 use Rattle.reg_sts_write.specs.Completion.{commanded, without_cause, ignored, enter_completion, bad_size}
 
 -- "with exactly one of these bits set, others not counted": 40h, 20h, 02h
-unfoldable pub sts_command : ℕ → StsCommand
+unfoldable pub sts_command : ℕ → Option StsCommand
 sts_command v =
     cond (bit sts.command_ready v + bit sts.tpm_go v + bit sts.response_retry v == 1)
-    (cond (bit sts.command_ready v == 1) CommandReady
-    (cond (bit sts.tpm_go v == 1) TpmGo ResponseRetry))
-    Nothing
+    (cond (bit sts.command_ready v == 1) (Some CommandReady)
+    (cond (bit sts.tpm_go v == 1) (Some TpmGo) (Some ResponseRetry)))
+    None
 
 abbrev pub command_ready_cause : Causes
 command_ready_cause = record { command_ready = true; locality_change = false; data_avail = false }
@@ -61,11 +61,11 @@ response_retry (Execution n) run = ignored (Execution n) run
 response_retry (Completion n k) run = without_cause (Completion n 0) run Keep
 
 -- the bit that stands alone, or none
-abbrev pub commanded_by : StsCommand → Phase → ℕ → ℕ → ℕ → Commanded
-commanded_by Nothing p run size c = ignored p run
-commanded_by CommandReady p run size c = command_ready p run
-commanded_by TpmGo p run size c = tpm_go p run size c
-commanded_by ResponseRetry p run size c = response_retry p run
+abbrev pub commanded_by : Option StsCommand → Phase → ℕ → ℕ → ℕ → Commanded
+commanded_by None p run size c = ignored p run
+commanded_by (Some CommandReady) p run size c = command_ready p run
+commanded_by (Some TpmGo) p run size c = tpm_go p run size c
+commanded_by (Some ResponseRetry) p run size c = response_retry p run
 
 -- a byte written to STS of the active locality: "STS writes act at 0018 only"
 unfoldable pub write_sts : Phase → ℕ → ℕ → ℕ → ℕ → ℕ → Commanded

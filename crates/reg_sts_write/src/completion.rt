@@ -9,8 +9,6 @@ use reg_fifo::FifoAction;
 // The answer to a command whose declared size is below 10 or above C: TPM_BAD_PARAM_SIZE.
 pub const BAD_SIZE: [u8; 10] = [0x00, 0xc4, 0x00, 0x00, 0x00, 0x0a, 0x00, 0x00, 0x00, 0x19];
 
-pub const BAD_SIZE_LENGTH: u16 = 10;
-
 // With an answer of n bytes.
 pub fn enter_completion(n: u16, run: u32) -> Commanded
     ensures { result ≡ enter_completion n run }
@@ -18,11 +16,7 @@ pub fn enter_completion(n: u16, run: u32) -> Commanded
     Commanded {
         phase: Phase::Completion(n, 0),
         run,
-        causes: Causes {
-            command_ready: false,
-            locality_change: false,
-            data_avail: true,
-        },
+        causes: Causes::DATA_AVAIL,
         fifos: FifoAction::Complete,
     }
 }

@@ -1,17 +1,17 @@
 // The image of a record.
 use crate::flags::{flags_of, put_flags};
 use crate::{BANK, FIRST_COUNT, HASHED, IDENTITY, LOCALITY, RUN, SECOND_COUNT, TAIL, WORDS};
-use arbiter::Owner;
+use arbiter::Locality;
 use pcr::{PCRS, Pcr};
 use record::{Control, Device, Phase};
 use replay_form::PHASE;
 use replay_form::fields::{put, put_all, put_u16, put_u32};
 use sha1_message::Stream;
 
-fn locality_of(o: Owner) -> u8 {
+fn locality_of(o: Option<Locality>) -> u8 {
     match o {
-        Owner::Nobody => 0,
-        Owner::Held(x) => x.0,
+        None => 0,
+        Some(x) => x.0,
     }
 }
 

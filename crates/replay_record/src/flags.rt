@@ -1,5 +1,5 @@
 // The flags of a record in the order of the image; the only place that names each of them.
-use arbiter::{Arbiter, Locality, Owner};
+use arbiter::{Arbiter, Locality};
 use record::{Causes, Control, Interrupts, Launch};
 use replay_form::FLAGS;
 use replay_form::fields::{byte_at, put_flag};
@@ -13,11 +13,11 @@ pub fn flags_at(image: &[u8]) -> [bool; FLAGS] {
     f
 }
 
-fn owner(held: bool, x: u8) -> Owner {
+fn owner(held: bool, x: u8) -> Option<Locality> {
     if held {
-        return Owner::Held(Locality(x));
+        return Some(Locality(x));
     }
-    Owner::Nobody
+    None
 }
 
 fn arbiter_of(f: [bool; FLAGS], x: u8) -> Arbiter {
@@ -56,10 +56,10 @@ pub fn launch_of(f: [bool; FLAGS], stream: Stream) -> Launch {
     }
 }
 
-fn held(o: Owner) -> bool {
+fn held(o: Option<Locality>) -> bool {
     match o {
-        Owner::Nobody => false,
-        Owner::Held(_x) => true,
+        None => false,
+        Some(_x) => true,
     }
 }
 
