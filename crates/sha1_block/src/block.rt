@@ -7,7 +7,7 @@ use super::rounds::{Vars, rounds};
 // The initial hash value.
 pub const FIRST: [u32; 5] = [0x67452301, 0xefcdab89, 0x98badcfe, 0x10325476, 0xc3d2e1f0];
 
-// The block's own sixteen words.
+// The block's own sixteen words; under w.iter_mut().zip(..) the iterator has w, and no invariant can say what is in it.
 fn first_words(block: &[u8; 64]) -> [u32; 80]
     ensures { result ≡ schedule block.now 16 }
 {
@@ -18,7 +18,7 @@ fn first_words(block: &[u8; 64]) -> [u32; 80]
     w
 }
 
-// The whole schedule.
+// The whole schedule; each word is made of four before it, so the loop counts their places.
 fn schedule(block: &[u8; 64]) -> [u32; 80]
     ensures { result ≡ schedule block.now 80 }
 {

@@ -5,15 +5,18 @@ ghost use Rattle.sha1_message.specs.Stream.{finish, mark as mark_spec, with_leng
 
 use sha1_block::block::compress;
 
+// The four bytes of a word.
+fn bytes(word: u32) -> [u8; 4]
+    ensures { result ≡ bytes_of word }
+{
+    word.to_be_bytes()
+}
+
 // The five words as bytes.
 fn digest(h: [u32; 5]) -> [u8; 20]
     ensures { result ≡ digest_of h }
 {
-    let words = h.map(
-        |word|
-            ensures { result ≡ bytes_of word }
-        { word.to_be_bytes() },
-    );
+    let words = h.map(bytes);
     let mut out = [0u8; 20];
     out.copy_from_slice(words.as_flattened());
     out
