@@ -9,6 +9,7 @@ use bus_resolve::WriteKind;
 use pcr::{Pcr, PcrIndex};
 use record::limits::HASH_LIMIT;
 use record::{Launch, closed_launch};
+use sha1_message::Stream;
 
 // The PCR that a launch is measured into.
 const LAUNCH_PCR: PcrIndex = PcrIndex(17);
@@ -35,7 +36,7 @@ fn begun_launch() -> Launch
 {
     Launch {
         sequence: true,
-        stream: sha1_message::begin(),
+        stream: Stream::begin(),
     }
 }
 
@@ -44,7 +45,7 @@ fn joined(l: Launch, v: u8) -> Launch
     ensures { result ≡ joined_spec l v }
 {
     Launch {
-        stream: sha1_message::join(l.stream, v),
+        stream: l.stream.join(v),
         ..l
     }
 }
@@ -65,7 +66,7 @@ pub fn launch_after(k: WriteKind, l: Launch, v: u8) -> Launch
 fn measured(bank: [Pcr; 24], l: Launch) -> [Pcr; 24]
     ensures { result ≡ measured_spec bank l }
 {
-    let digest = sha1_message::finish(l.stream);
+    let digest = l.stream.finish();
     let value = pcr::bank::value_at(bank, LAUNCH_PCR);
     pcr::bank::replaced(bank, LAUNCH_PCR, sha1_message::extend(value, digest))
 }

@@ -139,7 +139,7 @@ pub fn closed_launch() -> Launch
 {
     Launch {
         sequence: false,
-        stream: sha1_message::nothing(),
+        stream: Stream::nothing(),
     }
 }
 

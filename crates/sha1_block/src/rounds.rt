@@ -1,8 +1,8 @@
-// The 80 rounds of FIPS 180-4 on the working variables, in four loops of 20 that have one function and one constant each.
-ghost use Rattle.std.specs.Prelude.{◌≡◌};
-ghost use Rattle.sha1_block.specs.Sha1.{round_by, rounds};
+// The 80 rounds of FIPS 180-4 on the working variables: four times twenty, and each twenty have one function and one constant.
+ghost use Rattle.std.specs.Prelude.{◌≡◌, ℕ, ◌+◌, ◌<◌, ◌≤◌};
+ghost use Rattle.sha1_block.specs.Sha1.{f, K, round_by, rounds};
 
-use super::word::{ch, maj, parity, rotl};
+use super::word::{ch, maj, parity};
 
 // The working variables.
 #[derive(Clone, Copy)]
@@ -18,66 +18,38 @@ pub struct Vars {
 fn round(f: u32, k: u32, w: u32, v: Vars) -> Vars
     ensures { result ≡ round_by f k w v }
 {
-    let x = std::num::wrapping_add_u32(rotl(5, v.a), f);
-    let y = std::num::wrapping_add_u32(x, v.e);
-    let z = std::num::wrapping_add_u32(y, k);
     Vars {
-        a: std::num::wrapping_add_u32(z, w),
+        a: v.a
+            .rotate_left(5)
+            .wrapping_add(f)
+            .wrapping_add(v.e)
+            .wrapping_add(k)
+            .wrapping_add(w),
         b: v.a,
-        c: rotl(30, v.b),
+        c: v.b.rotate_left(30),
         d: v.c,
         e: v.d,
     }
 }
 
-// Rounds 0 to 19, with Ch.
-fn rounds_to_20(w: &[u32; 80], v: Vars) -> Vars
-    ensures { result ≡ rounds w.now 0 20 v }
+// The twenty rounds from round s on, which have one function and one constant; inlined, so that both are known where the loop is.
+#[inline(always)]
+fn twenty<F: Fn(u32, u32, u32) -> u32>(
+    s: usize,
+    function: F,
+    k: u32,
+    w: &[u32; 80],
+    v: Vars,
+) -> Vars
+    requires end { s + 20 ≤ 80 }
+    requires callable { F.IsAlwaysCallable function }
+    requires values { (t x y z r : ℕ) → s ≤ t → t < s + 20 → F.post function x y z r → r ≡ f t x y z }
+    requires constant { (t : ℕ) → s ≤ t → t < s + 20 → k ≡ K t }
+    ensures { result ≡ rounds w.now s 20 v }
 {
     let mut x = v;
-    let mut t: usize = 0;
-    while t < 20 {
-        x = round(ch(x.b, x.c, x.d), 0x5a827999, w[t], x);
-        t += 1;
-    }
-    x
-}
-
-// Rounds 20 to 39, with Parity.
-fn rounds_to_40(w: &[u32; 80], v: Vars) -> Vars
-    ensures { result ≡ rounds w.now 20 20 v }
-{
-    let mut x = v;
-    let mut t: usize = 20;
-    while t < 40 {
-        x = round(parity(x.b, x.c, x.d), 0x6ed9eba1, w[t], x);
-        t += 1;
-    }
-    x
-}
-
-// Rounds 40 to 59, with Maj.
-fn rounds_to_60(w: &[u32; 80], v: Vars) -> Vars
-    ensures { result ≡ rounds w.now 40 20 v }
-{
-    let mut x = v;
-    let mut t: usize = 40;
-    while t < 60 {
-        x = round(maj(x.b, x.c, x.d), 0x8f1bbcdc, w[t], x);
-        t += 1;
-    }
-    x
-}
-
-// Rounds 60 to 79, with Parity again.
-fn rounds_to_80(w: &[u32; 80], v: Vars) -> Vars
-    ensures { result ≡ rounds w.now 60 20 v }
-{
-    let mut x = v;
-    let mut t: usize = 60;
-    while t < 80 {
-        x = round(parity(x.b, x.c, x.d), 0xca62c1d6, w[t], x);
-        t += 1;
+    for word in &w[s..s + 20] {
+        x = round(function(x.b, x.c, x.d), k, *word, x);
     }
     x
 }
@@ -86,8 +58,8 @@ fn rounds_to_80(w: &[u32; 80], v: Vars) -> Vars
 pub fn rounds(w: &[u32; 80], v: Vars) -> Vars
     ensures { result ≡ rounds w.now 0 80 v }
 {
-    let x = rounds_to_20(w, v);
-    let y = rounds_to_40(w, x);
-    let z = rounds_to_60(w, y);
-    rounds_to_80(w, z)
+    let x = twenty(0, ch, 0x5a827999, w, v);
+    let y = twenty(20, parity, 0x6ed9eba1, w, x);
+    let z = twenty(40, maj, 0x8f1bbcdc, w, y);
+    twenty(60, parity, 0xca62c1d6, w, z)
 }

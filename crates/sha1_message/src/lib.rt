@@ -1,12 +1,11 @@
 // SHA-1 (FIPS 180-4) of a slice at once, and of a message that comes a byte at a time.
 #![tactic(auto)]
 
-mod oneshot;
+pub mod oneshot;
 mod padding;
 mod streaming;
 
 pub use oneshot::{extend, hash};
-pub use streaming::{begin, finish, join, join_lent, nothing};
 
 // A message as far as it came: the hash value after its whole blocks, the bytes behind them with 00h after them, and how many bytes in all.
 #[derive(Clone, Copy)]

@@ -1,21 +1,24 @@
 // The end of a message: its padding, its last block or two, and the digest.
 ghost use Rattle.std.specs.Prelude.{◌≡◌, ◌<◌, ◌≤◌, ◌^◌, ◌%◌, length};
-ghost use Rattle.sha1_block.specs.Sha1.{digest_of};
+ghost use Rattle.sha1_block.specs.Sha1.{bytes_of, digest_of};
 ghost use Rattle.sha1_message.specs.Stream.{finish, mark as mark_spec, with_length};
 
 use sha1_block::block::compress;
-use sha1_block::word::store;
+
+// The four bytes of a word.
+fn bytes(word: u32) -> [u8; 4]
+    ensures { result ≡ bytes_of word }
+{
+    word.to_be_bytes()
+}
 
 // The five words as bytes.
 fn digest(h: [u32; 5]) -> [u8; 20]
     ensures { result ≡ digest_of h }
 {
+    let words = h.map(bytes);
     let mut out = [0u8; 20];
-    store(&mut out, 0, h[0]);
-    store(&mut out, 4, h[1]);
-    store(&mut out, 8, h[2]);
-    store(&mut out, 12, h[3]);
-    store(&mut out, 16, h[4]);
+    out.copy_from_slice(words.as_flattened());
     out
 }
 
@@ -26,8 +29,7 @@ fn with_length(block: [u8; 64], n: u64) -> [u8; 64]
 {
     let bits = n * 8;
     let mut t = block;
-    store(&mut t, 56, (bits >> 32) as u32);
-    store(&mut t, 60, (bits % 0x1_0000_0000) as u32);
+    t[56..].copy_from_slice(&bits.to_be_bytes());
     t
 }
 
@@ -50,12 +52,9 @@ pub fn close(h: [u32; 5], tail: &[u8], n: u64) -> [u8; 20]
     ensures { result ≡ finish (record { h = h; tail = tail.now; count = n }) }
 {
     let at = (n % 64) as usize;
-    let t = mark(tail, at);
+    let block = mark(tail, at);
     if at < 56 {
-        let last = with_length(t, n);
-        return digest(compress(h, &last, 0));
+        return digest(compress(h, &with_length(block, n)));
     }
-    let g = compress(h, &t, 0);
-    let last = with_length([0u8; 64], n);
-    digest(compress(g, &last, 0))
+    digest(compress(compress(h, &block), &with_length([0u8; 64], n)))
 }

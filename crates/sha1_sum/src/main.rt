@@ -1,59 +1,78 @@
 // Writes the SHA-1 of each message of its standard input, where a message is a 16-bit length, high byte first, and that many bytes.
 #![tactic(auto)]
 
-ghost use Rattle.std.specs.Prelude.{◌<◌, ◌≤◌, length};
+ghost use Rattle.std.specs.Prelude.{◌≤◌, ⊤, length, IfOk, MatchOption};
 
 const STDIN_FILENO: i32 = 0;
 
 const STDOUT_FILENO: i32 = 1;
 
+// What ends a run before its input does.
+#[derive(Clone, Copy)]
+enum Fault {
+    Truncated,
+    TooLong,
+}
+
 fn say(text: &[u8]) {
     io::write_all(STDOUT_FILENO, text);
 }
 
-fn wide(b: u8) -> usize
-    ensures { result < 256 }
+// The length of the next message, and None where the input ends. std's read_exact would not tell that end from half a length.
+fn next_length() -> Result<Option<usize>, Fault>
+    ensures { IfOk result (λ o. MatchOption o ⊤ (λ n. n ≤ 4096)) }
 {
-    b as usize
-}
-
-// Reads a message that fills the slice and writes its digest. Answers whether the message was whole.
-fn sum(body: &mut [u8]) -> bool
-    requires { length body.old ≤ 4096 }
-{
-    if io::read_full(STDIN_FILENO, body) < body.len() {
-        say(b"truncated message\n");
-        return false;
-    }
-    say(&sha1_text::hex(sha1_message::hash(body)));
-    say(b"\n");
-    true
-}
-
-// One message. Answers whether to go on.
-fn message() -> bool {
     let mut head = [0u8; 2];
     let got = io::read_full(STDIN_FILENO, &mut head);
     if got == 0 {
-        return false;
+        return Ok(None);
     }
     if got < 2 {
-        say(b"truncated message\n");
-        return false;
+        return Err(Fault::Truncated);
     }
-    let n = wide(head[0]) * 256 + wide(head[1]);
+    let n = usize::from(u16::from_be_bytes(head));
     if n > 4096 {
-        say(b"message longer than 4096 bytes\n");
-        return false;
+        return Err(Fault::TooLong);
     }
-    let mut body = io::buffer();
-    sum(&mut body[..n])
+    Ok(Some(n))
 }
 
-// A proved loop has to end, and nothing says that the input does: the turns are counted down from a number that no run uses up.
+// Reads a message that fills the slice and writes its digest.
+fn sum(body: &mut [u8]) -> Result<(), Fault>
+    requires { length body.old ≤ 4096 }
+{
+    if io::read_full(STDIN_FILENO, body) < body.len() {
+        return Err(Fault::Truncated);
+    }
+    say(&sha1_text::hex(sha1_message::hash(body)));
+    say(b"\n");
+    Ok(())
+}
+
+// One message. Answers whether there was one.
+fn message() -> Result<bool, Fault> {
+    let Some(n) = next_length()? else {
+        return Ok(false);
+    };
+    let mut body = io::buffer();
+    sum(&mut body[..n])?;
+    Ok(true)
+}
+
+// A proved loop has to end, and nothing says that the input does: the turns are counted up to a number that no run comes to.
+fn run() -> Result<(), Fault> {
+    for _ in 0..u64::MAX {
+        if !message()? {
+            break;
+        }
+    }
+    Ok(())
+}
+
 fn main() {
-    let mut turns = u64::MAX;
-    while turns > 0 && message() {
-        turns -= 1;
+    match run() {
+        Ok(()) => {}
+        Err(Fault::Truncated) => say(b"truncated message\n"),
+        Err(Fault::TooLong) => say(b"message longer than 4096 bytes\n"),
     }
 }

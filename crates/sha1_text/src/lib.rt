@@ -2,30 +2,28 @@
 #![tactic(auto)]
 
 ghost use Rattle.std.specs.Prelude.{◌≡◌, ◌<◌};
-ghost use Rattle.sha1_text.specs.Text.{digit_of, hex_of};
+ghost use Rattle.sha1_text.specs.Text.{digit_of, pair_of, hex_of};
 
 fn digit(n: u8) -> u8
     requires { n < 16 }
     ensures { result ≡ digit_of n }
 {
-    if n < 10 {
-        return 48 + n;
-    }
-    87 + n
+    if n < 10 { b'0' + n } else { b'a' + (n - 10) }
+}
+
+// The two digits of a byte, the high one first.
+fn pair(b: u8) -> [u8; 2]
+    ensures { result ≡ pair_of b }
+{
+    [digit(b / 16), digit(b % 16)]
 }
 
 // The forty hexadecimal digits of a digest.
 pub fn hex(digest: [u8; 20]) -> [u8; 40]
     ensures { result ≡ hex_of digest }
 {
+    let pairs = digest.map(pair);
     let mut out = [0u8; 40];
-    let mut i: usize = 0;
-    while i < 20 {
-        let b = digest[i];
-        let at = 2 * i;
-        out[at] = digit(b / 16);
-        out[at + 1] = digit(b % 16);
-        i += 1;
-    }
+    out.copy_from_slice(pairs.as_flattened());
     out
 }

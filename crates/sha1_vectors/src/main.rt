@@ -1,7 +1,7 @@
 // Hashes known messages, at once and by the stream, and shows each digest beside the one that is expected.
 #![tactic(auto)]
 
-ghost use Rattle.std.specs.Prelude.{◌≡◌, ◌+◌, ◌<◌, ◌^◌, length};
+ghost use Rattle.std.specs.Prelude.{◌<◌, length};
 
 use sha1_message::Stream;
 
@@ -19,25 +19,11 @@ fn show(name: &[u8], way: &[u8], digest: [u8; 20], expected: &[u8]) {
     say(&got);
     say(b"  ");
     say(expected);
-    if check::same(&got, expected) {
+    if got.as_slice() == expected {
         say(b"  ok\n");
     } else {
         say(b"  DIFFERS\n");
     }
-}
-
-// The bytes of a slice join a stream, one after the other.
-fn join_all(s: Stream, m: &[u8]) -> Stream
-    requires { s.count + length m.now < 2 ^ 32 }
-    ensures { result.count ≡ s.count + length m.now }
-{
-    let mut g = s;
-    let mut i: usize = 0;
-    while i < m.len() {
-        g = sha1_message::join(g, m[i]);
-        i += 1;
-    }
-    g
 }
 
 // A message in both ways.
@@ -45,8 +31,9 @@ fn both(name: &[u8], m: &[u8], expected: &[u8])
     requires { length m.now < 4096 }
 {
     show(name, b"at once  ", sha1_message::hash(m), expected);
-    let s = join_all(sha1_message::begin(), m);
-    show(name, b"stream   ", sha1_message::finish(s), expected);
+    let mut s = Stream::begin();
+    s.push_all(m);
+    show(name, b"stream   ", s.finish(), expected);
 }
 
 // The messages of FIPS 180 that fit in a buffer.
@@ -116,16 +103,14 @@ fn lengths() {
 // A million times 'a', a hundred at a time, by the stream alone.
 fn million() {
     let a = [b'a'; 100];
-    let mut s = sha1_message::begin();
-    let mut i: usize = 0;
-    while i < 10_000 {
-        s = join_all(s, &a);
-        i += 1;
+    let mut s = Stream::begin();
+    'hundreds: for _ in 0..10_000u32 {
+        s.push_all(&a);
     }
     show(
         b"1,000,000 times 'a'   ",
         b"stream   ",
-        sha1_message::finish(s),
+        s.finish(),
         b"34aa973cd4c4daa4f61eeb2bdbad27316534016f",
     );
 }
