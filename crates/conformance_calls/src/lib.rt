@@ -10,6 +10,7 @@ use conformance_lines::results::{
 use pcr::PcrIndex;
 use record::Device;
 use record::limits::FIFO_GREATEST;
+use refusal::number_of;
 
 // The most bytes that a line lends, writes or reads: more than the greatest C, so that a length beyond it can be played.
 pub const LONGEST: usize = 9000;
@@ -32,14 +33,14 @@ struct Received {
 // A power-on as the sheet has it: not established. The refusal number expected is the line's byte.
 pub fn power_on(w: &mut [u8], r: &mut [u8], s: Step) -> Device {
     let o = tis::power_on(false, [0u8; 5], w, r);
-    show_power_on(s, w.len(), o.refusal);
+    show_power_on(s, w.len(), number_of(o.refusal));
     o.device
 }
 
 // The refusal number expected is the line's byte.
 pub fn reset(device: Device, w: &mut [u8], r: &mut [u8], s: Step) -> Device {
     let o = tis::reset(device, w, r);
-    show_reset(s, o.refusal);
+    show_reset(s, number_of(o.refusal));
     o.device
 }
 
@@ -52,7 +53,7 @@ fn repeat(device: Device, w: &mut [u8], r: &mut [u8], offset: u64, v: u8, n: u64
         i += 1;
         let o = tis::write(d, w, r, offset, v);
         d = o.device;
-        refusals = refusals | o.refusal;
+        refusals = refusals | number_of(o.refusal);
     }
     Sent {
         device: d,
@@ -79,7 +80,7 @@ fn send(device: Device, w: &mut [u8], r: &mut [u8], offset: u64, bytes: &[u8]) -
         i += 1;
         let o = tis::write(d, w, r, offset, v);
         d = o.device;
-        refusals = refusals | o.refusal;
+        refusals = refusals | number_of(o.refusal);
     }
     Sent {
         device: d,
@@ -122,7 +123,7 @@ pub fn fill(device: Device, w: &mut [u8], r: &mut [u8], s: Step) -> Device {
 // A read gives the byte and the refusal number.
 pub fn read(device: Device, w: &[u8], r: &[u8], s: Step) -> Device {
     let o = tis::read(device, w, r, place(s));
-    show_read(s, o.byte, o.refusal);
+    show_read(s, o.byte, number_of(o.refusal));
     o.device
 }
 
@@ -138,7 +139,7 @@ fn receive(device: Device, w: &[u8], r: &[u8], offset: u64, expected: &[u8]) -> 
         let o = tis::read(d, w, r, offset);
         d = o.device;
         differences = differences | (o.byte ^ v);
-        refusals = refusals | o.refusal;
+        refusals = refusals | number_of(o.refusal);
     }
     Received {
         device: d,
@@ -165,7 +166,7 @@ pub fn respond(device: Device, w: &mut [u8], r: &mut [u8], s: Step) -> Device {
     let a = answer(rest);
     let part = front(&a, s.byte as usize);
     let o = tis::respond(device, w, r, s.low as u32, part);
-    show_answer(s, o.refusal);
+    show_answer(s, number_of(o.refusal));
     o.device
 }
 
@@ -176,7 +177,7 @@ pub fn respond_free(device: Device, w: &mut [u8], r: &mut [u8], s: Step) -> Devi
     free_bytes(&mut b, s.byte);
     let part = front(&b, times(rest) as usize);
     let o = tis::respond(device, w, r, s.low as u32, part);
-    show_answer(s, o.refusal);
+    show_answer(s, number_of(o.refusal));
     o.device
 }
 
@@ -190,9 +191,8 @@ fn digest(part: &[u8]) -> [u8; 40] {
 
 // The window has as many bytes as the offset says, with that digest; the refusal number expected is the line's byte.
 pub fn window<'a>(device: Device, w: &'a [u8], r: &'a [u8], s: Step) -> Device {
-    let mut refusal: u8 = 0;
-    let part = tis::window(device, w, r, &mut refusal);
-    show_window(s, part.len(), digest(part), refusal);
+    let o = tis::window(device, w, r);
+    show_window(s, o.bytes.len(), digest(o.bytes), number_of(o.refusal));
     device
 }
 
@@ -212,7 +212,7 @@ pub fn line(device: Device, s: Step) -> Device {
 pub fn pcr(device: Device, s: Step) -> Device {
     let o = tis::pcr_value(device, PcrIndex(s.low));
     let value = o.value;
-    show_pcr(s, sha1_text::hex(value), o.refusal);
+    show_pcr(s, sha1_text::hex(value), number_of(o.refusal));
     device
 }
 
@@ -224,7 +224,7 @@ pub fn permission(device: Device, s: Step) -> Device {
         s,
         reset.allowed,
         extend.allowed,
-        reset.refusal | extend.refusal,
+        number_of(reset.refusal) | number_of(extend.refusal),
     );
     device
 }

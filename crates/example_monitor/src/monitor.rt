@@ -1,4 +1,4 @@
-// What a monitor does with the front: it keeps the record, lends the two FIFOs, and looks at each refusal number.
+// What a monitor does with the front: it keeps the record, lends the two FIFOs, and looks whether a call was refused.
 use crate::{FIFO_BYTES, engine, print};
 use record::{Device, Phase};
 
@@ -55,12 +55,10 @@ fn answer(
     write_fifo: &mut [u8; FIFO_BYTES],
     read_fifo: &mut [u8; FIFO_BYTES],
 ) -> Device {
-    let control = device.control;
-    let mut refusal = 0u8;
-    let command = tis::window(device, write_fifo, read_fifo, &mut refusal);
-    print::bytes(b"window ", command, refusal);
-    let answer = engine::answer(command);
-    let o = tis::respond(device, write_fifo, read_fifo, control.run, &answer);
+    let shown = tis::window(device, write_fifo, read_fifo);
+    print::bytes(b"window ", shown.bytes, shown.refusal);
+    let answer = engine::answer(shown.bytes);
+    let o = tis::respond(device, write_fifo, read_fifo, device.control.run, &answer);
     print::bytes(b"respond", &answer, o.refusal);
     o.device
 }

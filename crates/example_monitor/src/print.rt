@@ -1,4 +1,6 @@
 // A line for each call.
+use refusal::Refusal;
+
 const STDOUT_FILENO: i32 = 1;
 
 fn text(s: &[u8]) {
@@ -12,10 +14,10 @@ pub fn line(s: &[u8]) {
 }
 
 // A call's line ends here, with the refusal number where there is one.
-fn end(refusal: u8) {
-    if refusal != refusal::ACCEPTED {
+fn end(refusal: Option<Refusal>) {
+    if let Some(refusal) = refusal {
         text(b", refused as ");
-        io::print_decimal(STDOUT_FILENO, refusal as u64);
+        io::print_decimal(STDOUT_FILENO, refusal.number() as u64);
     }
     text(b"\n");
 }
@@ -31,13 +33,13 @@ fn byte(value: u8) {
 }
 
 // A call without an address and without bytes.
-pub fn call(name: &[u8], refusal: u8) {
+pub fn call(name: &[u8], refusal: Option<Refusal>) {
     called(name);
     end(refusal);
 }
 
 // A command or an answer.
-pub fn bytes(name: &[u8], shown: &[u8], refusal: u8) {
+pub fn bytes(name: &[u8], shown: &[u8], refusal: Option<Refusal>) {
     called(name);
     let mut i: usize = 0;
     while i < shown.len() {
@@ -48,7 +50,7 @@ pub fn bytes(name: &[u8], shown: &[u8], refusal: u8) {
 }
 
 // A bus cycle: offset and byte, in hexadecimal.
-pub fn cycle(name: &[u8], offset: u64, value: u8, refusal: u8) {
+pub fn cycle(name: &[u8], offset: u64, value: u8, refusal: Option<Refusal>) {
     called(name);
     text(b" ");
     io::print_hex(STDOUT_FILENO, offset, 4);

@@ -4,6 +4,7 @@
 ghost use Rattle.std.specs.Prelude.{◌<◌};
 
 use record::Device;
+use refusal::number_of;
 
 // What is left after playing the script, and the sum of the bytes and refusal numbers so far, which shows that nothing was skipped.
 #[derive(Clone, Copy)]
@@ -48,12 +49,12 @@ fn once(
         } else if kind == 1 {
             let o = tis::write(d, w, r, offset, script[at + 3]);
             d = o.device;
-            total = plus(total, o.refusal);
+            total = plus(total, number_of(o.refusal));
         } else {
             let control = d.control;
             let o = tis::respond(d, w, r, control.run, answer);
             d = o.device;
-            total = plus(total, o.refusal);
+            total = plus(total, number_of(o.refusal));
         }
     }
     Turn {
