@@ -3,6 +3,7 @@ use crate::dump::dump;
 use arbiter::Locality;
 use pcr::{PcrIndex, Permission};
 use record::Device;
+use refusal::{Refusal, number_of};
 use replay_form::LONGEST;
 use replay_form::fields::{byte_at, put, put_all, put_flag, put_u16};
 use replay_form::tape::least;
@@ -10,7 +11,7 @@ use replay_form::tape::least;
 fn pcr_value(device: Device, args: &[u8], out: &mut [u8]) -> usize {
     let o = tis::pcr_value(device, PcrIndex(byte_at(args, 0)));
     let value = o.value;
-    put(out, 0, o.refusal);
+    put(out, 0, number_of(o.refusal));
     put_all(out, 1, &value);
     21
 }
@@ -21,7 +22,7 @@ fn interrupt_line(device: Device, out: &mut [u8]) -> usize {
 }
 
 fn permission(p: Permission, out: &mut [u8]) -> usize {
-    put(out, 0, p.refusal);
+    put(out, 0, number_of(p.refusal));
     put_flag(out, 1, p.allowed);
     2
 }
@@ -40,18 +41,17 @@ fn may_extend(args: &[u8], out: &mut [u8]) -> usize {
     )
 }
 
-fn put_window(out: &mut [u8], refusal: u8, part: &[u8]) -> usize {
+fn put_window(out: &mut [u8], refusal: Option<Refusal>, part: &[u8]) -> usize {
     let n = part.len();
-    put(out, 0, refusal);
+    put(out, 0, number_of(refusal));
     put_u16(out, 1, n as u64);
     put_all(out, 3, part);
     3 + least(n, LONGEST)
 }
 
 fn window<'a>(device: Device, w: &'a [u8], r: &'a [u8], out: &mut [u8]) -> usize {
-    let mut refusal = 0u8;
-    let part = tis::window(device, w, r, &mut refusal);
-    put_window(out, refusal, part)
+    let o = tis::window(device, w, r);
+    put_window(out, o.refusal, o.bytes)
 }
 
 pub fn question<'a>(

@@ -1,10 +1,11 @@
 // The calls that may change the record; a read is `tis::read` as it stands.
 use record::Device;
+use refusal::Refusal;
 use replay_form::fields::{byte_at, take, u32_at, u64_at};
 use tis::ReadOutcome;
 
 // With no byte, where the call is no read.
-fn outcome(refusal: u8, device: Device) -> ReadOutcome {
+fn outcome(refusal: Option<Refusal>, device: Device) -> ReadOutcome {
     ReadOutcome {
         refusal,
         byte: 0,
@@ -35,7 +36,7 @@ fn write(device: Device, w: &mut [u8], r: &mut [u8], args: &[u8]) -> ReadOutcome
 fn respond(device: Device, w: &mut [u8], r: &mut [u8], args: &[u8]) -> ReadOutcome {
     // Run number and length are there, or the call would have been cut short.
     if args.len() < 6 {
-        return outcome(refusal::ANSWER_LENGTH, device);
+        return outcome(Some(Refusal::AnswerLength), device);
     }
     let o = tis::respond(device, w, r, u32_at(args, 0) as u32, &args[6..]);
     let d = o.device;

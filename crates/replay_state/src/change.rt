@@ -1,13 +1,14 @@
 // A call that may change the record.
 use crate::State;
+use refusal::{Refusal, number_of};
 use replay_calls::changes::change;
 use replay_form::fields::put;
 use replay_form::tape::least;
 use tis::ReadOutcome;
 
 // The outcome of a read has its byte too.
-pub fn put_outcome(out: &mut [u8], kind: u8, refusal: u8, byte: u8) -> usize {
-    put(out, 0, refusal);
+pub fn put_outcome(out: &mut [u8], kind: u8, refusal: Option<Refusal>, byte: u8) -> usize {
+    put(out, 0, number_of(refusal));
     if kind == b'R' {
         put(out, 1, byte);
         return 2;
