@@ -1,5 +1,6 @@
 -- A record of a capture as a call of the front (document 02, W1), and the outcome that it gives. Assumes nothing.
 use Rattle.std.specs.Prelude.{ℕ, ◌≡◌, cond, List, [], ◌∷◌, eqb}
+use Rattle.refusal.specs.Refusal.{number_of}
 use Rattle.call_outcome.specs.declared.ReadOutcome.{ReadOutcome}
 use Rattle.capture.specs.declared.Cycle.{Cycle}
 use Rattle.claims.specs.Calls.{Call, reset, read, write, respond, Value, nothing, byte, bytes, flag, Called}
@@ -26,7 +27,7 @@ shown_byte (flag b) = 0xff
 
 -- an outcome, with w and r in the FIFOs afterwards, is what a call gives
 pub record Gives (o : ReadOutcome) (w r : List ℕ) (k : Called) : Type 0 where
-  pub refusal : o.refusal ≡ k.answer.refusal
+  pub refusal : number_of o.refusal ≡ k.answer.refusal
   pub byte : o.byte ≡ shown_byte k.answer.value
   pub device : o.device ≡ k.left.device
   pub write_fifo : w ≡ k.left.write_fifo
