@@ -7,6 +7,7 @@ use native.Mathlib.Numerals.{add-one}
 use native.Mathlib.Omega.{arith}
 use lib.ListN.{length, set, take, drop, drop_of_length-le, length-map, get_or-map}
 use lib.Seq.{sets, drop-cons, get_or-take, length-take-le}
+use Rattle.refusal.specs.Refusal.{number_of}
 use Rattle.record.specs.declared.Device.{Device}
 use Rattle.call_outcome.specs.declared.Outcome.{Outcome}
 use Rattle.call_outcome.specs.declared.ReadOutcome.{ReadOutcome}
@@ -23,7 +24,7 @@ use Rattle.capture_play.specs.Play.{calls_of, shown, cycles_in, powered, Plays, 
 
 -- a record's outcome and its two bytes
 pub turned : (body : List ℕ) (i : ℕ) (k : Cycle) (s : State) (o : ReadOutcome) (a w r lent : List ℕ) → k ≡ cycle_at body i → Gives o w r (called (call_of k) s)
-    → a ≡ set (set lent (2 * i) o.refusal) (2 * i + 1) o.byte → Turns o.device a w r (call_of (cycle_at body i)) s i lent
+    → a ≡ set (set lent (2 * i) (number_of o.refusal)) (2 * i + 1) o.byte → Turns o.device a w r (call_of (cycle_at body i)) s i lent
 turned body i k s o a w r lent e g q =
     rw (← e) (record { answers = q ∙ rw (g.refusal, g.byte); left = rw (g.device, g.write_fifo, g.read_fifo) })
 

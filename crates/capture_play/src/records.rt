@@ -8,6 +8,7 @@ ghost use Rattle.capture_play.specs.Play.{first_calls, Turns, Runs};
 use capture::cycle_at;
 use capture_call::cycle;
 use record::Device;
+use refusal::number_of;
 
 // A byte at its place, if there is room.
 fn put(out: &mut [u8], i: usize, b: u8)
@@ -39,7 +40,7 @@ fn turn(
     ensures { Turns result answers.new w.new r.new (call_of (cycle_at body.now i)) (state device w.old r.old) i answers.old }
 {
     let o = cycle(device, cycle_at(body, i), w, r);
-    put_answer(answers, 2 * i, o.refusal, o.byte);
+    put_answer(answers, 2 * i, number_of(o.refusal), o.byte);
     o.device
 }
 
