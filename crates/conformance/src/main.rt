@@ -9,12 +9,12 @@ use play::play;
 
 const STDIN_FILENO: i32 = 0;
 
-// The FIFOs hold FFh at first, so that the power-on has something to empty. A sheet is read by the kit's `io`, which fills fixed memory to its
-// end; of the library's readers those that do so need a heap, or do not say how much came.
+// The FIFOs hold FFh at first, so that the power-on has something to empty.
 fn main(rt: HostRuntime) {
     let mut write_fifo = [0xff; LONGEST];
     let mut read_fifo = [0xff; LONGEST];
     let mut sheet = io::large_buffer();
+    // the kit's reader: std's `read_exact` does not say how much came, and its `read_to_end` needs a heap
     let n = io::read_full(STDIN_FILENO, &mut sheet);
     play(&rt, &mut write_fifo, &mut read_fifo, &sheet[..n]);
 }
