@@ -10,10 +10,11 @@ use play::play;
 const STDIN_FILENO: i32 = 0;
 
 // The FIFOs hold FFh at first, so that the power-on has something to empty.
-fn main() {
-    let mut w = [0xffu8; LONGEST];
-    let mut r = [0xffu8; LONGEST];
-    let mut text = io::large_buffer();
-    let n = io::read_full(STDIN_FILENO, &mut text);
-    play(&mut w, &mut r, &text[..n]);
+fn main(rt: HostRuntime) {
+    let mut write_fifo = [0xff; LONGEST];
+    let mut read_fifo = [0xff; LONGEST];
+    let mut sheet = io::large_buffer();
+    // the kit's reader: std's `read_exact` does not say how much came, and its `read_to_end` needs a heap
+    let n = io::read_full(STDIN_FILENO, &mut sheet);
+    play(&rt, &mut write_fifo, &mut read_fifo, &sheet[..n]);
 }

@@ -1,80 +1,49 @@
 // Plays the lines of the sheet: each is a call of the register front and a line that shows what it gave.
-use conformance_calls::{
-    drain, fill, line, pcr, permission, power_on, read, reset, respond, respond_free, run, text,
-    unknown, window, write,
-};
-use conformance_lines::line::{Step, least, parsed, place};
-use record::Device;
+use conformance_calls::{Bench, permission, unknown};
+use conformance_lines::line::{Kind, Step};
 use record::limits::FIFO_LEAST;
+use std::io;
 
-// A line that has no letter is a heading, or empty: nothing is done.
-fn take(device: Device, w: &mut [u8], r: &mut [u8], s: Step) -> Device {
-    let kind = s.kind;
-    match kind {
-        b'p' => power_on(w, r, s),
-        b'x' => reset(device, w, r, s),
-        b'w' => write(device, w, r, s),
-        b'm' => text(device, w, r, s),
-        b'f' => fill(device, w, r, s),
-        b'r' => read(device, w, r, s),
-        b'd' => drain(device, w, r, s),
-        b'e' => respond(device, w, r, s),
-        b'g' => respond_free(device, w, r, s),
-        b's' => window(device, w, r, s),
-        b'n' => run(device, s),
-        b'i' => line(device, s),
-        b'v' => pcr(device, s),
-        b'q' => permission(device, s),
-        b' ' => device,
-        _ => unknown(device, s),
+// A heading, or an empty line, does nothing.
+fn take(rt: &impl Print, bench: &mut Bench<'_>, s: &Step) -> io::Result<()> {
+    match s.kind {
+        Kind::PowerOn => bench.power_on(rt, s),
+        Kind::Reset => bench.reset(rt, s),
+        Kind::Write => bench.write(rt, s),
+        Kind::Text => bench.text(rt, s),
+        Kind::Fill => bench.fill(rt, s),
+        Kind::Read => bench.read(rt, s),
+        Kind::Drain => bench.drain(rt, s),
+        Kind::Respond => bench.respond(rt, s),
+        Kind::RespondFree => bench.respond_free(rt, s),
+        Kind::Window => bench.window(rt, s),
+        Kind::Run => bench.run(rt, s),
+        Kind::InterruptLine => bench.interrupt_line(rt, s),
+        Kind::Pcr => bench.pcr(rt, s),
+        Kind::Permission => permission(rt, s),
+        Kind::Heading => Ok(()),
+        Kind::Unknown => unknown(rt, s),
     }
 }
 
-// How many bytes of the FIFOs are lent from the line on: a power-on says it, any other line leaves it.
-fn lent(s: Step, before: usize) -> usize {
-    let kind = s.kind;
-    if kind == b'p' {
-        return place(s) as usize;
-    }
-    before
-}
-
-// The line, with so many bytes of each FIFO, or all of one that has fewer.
-fn lend(device: Device, w: &mut [u8], r: &mut [u8], length: usize, s: Step) -> Device {
-    let n = least(length, w.len());
-    let m = least(length, r.len());
-    take(device, &mut w[0..n], &mut r[0..m], s)
-}
-
-// A character joins the line, if there is room.
-fn join(line: &mut [u8], at: usize, c: u8) {
-    if at < line.len() {
-        line[at] = c;
-    }
-}
-
-// Before the first power-on line the record is a fresh one, with FIFOs of the least length.
-pub fn play(w: &mut [u8], r: &mut [u8], sheet: &[u8]) {
-    let mut d = record::fresh_device(false, [0u8; 5], 0);
-    let mut length: usize = FIFO_LEAST;
-    let mut line = [b' '; 72];
-    let mut at: usize = 0;
-    let mut i: usize = 0;
-    while i < sheet.len() {
-        let c = sheet[i];
-        i += 1;
-        if c == b'\n' {
-            let s = parsed(line);
-            length = lent(s, length);
-            d = lend(d, w, r, length, s);
-            line = [b' '; 72];
-            at = 0;
-        } else {
-            join(&mut line, at, c);
-            at += 1;
+// Before the first power-on line the record is a fresh one, with FIFOs of the least length. A power-on says how many bytes of each FIFO are
+// lent from there on; all of one that has fewer.
+pub fn play(rt: &impl Print, write_fifo: &mut [u8], read_fifo: &mut [u8], sheet: &[u8]) {
+    let mut device = record::fresh_device(false, [0; 5], 0);
+    let mut length = FIFO_LEAST;
+    for line in sheet.split(|c| *c == b'\n') {
+        let s = Step::parse(line);
+        if s.kind == Kind::PowerOn {
+            length = s.offset() as usize;
         }
+        let (n, m) = (length.min(write_fifo.len()), length.min(read_fifo.len()));
+        let mut bench = Bench {
+            device,
+            write_fifo: &mut write_fifo[..n],
+            read_fifo: &mut read_fifo[..m],
+        };
+        // a line that cannot be written is left out, and the sheet is played on
+        let _ = take(rt, &mut bench, &s);
+        device = bench.device;
     }
-    // the last line may lack its end
-    let s = parsed(line);
-    lend(d, w, r, lent(s, length), s);
 }

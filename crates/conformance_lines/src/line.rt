@@ -1,23 +1,65 @@
 // A line of the sheet: 22 characters that name the entry, a letter that says what is done, an offset, a byte, and up to 40 characters more.
-ghost use Rattle.std.specs.Prelude.{◌<◌, ◌≤◌};
+ghost use Rattle.std.specs.Prelude.{◌<◌};
 
+// The characters of a line: a shorter one is filled with blanks, a longer one cut.
+const WIDTH: usize = 72;
+
+// What a line asks for, by its letter. A heading, or an empty line, has none.
+#[derive(Clone, Copy, PartialEq, Eq)]
+pub enum Kind {
+    PowerOn,
+    Reset,
+    Write,
+    Text,
+    Fill,
+    Read,
+    Drain,
+    Respond,
+    RespondFree,
+    Window,
+    Run,
+    InterruptLine,
+    Pcr,
+    Permission,
+    Heading,
+    Unknown,
+}
+
+impl From<u8> for Kind {
+    fn from(letter: u8) -> Kind {
+        match letter {
+            b'p' => Kind::PowerOn,
+            b'x' => Kind::Reset,
+            b'w' => Kind::Write,
+            b'm' => Kind::Text,
+            b'f' => Kind::Fill,
+            b'r' => Kind::Read,
+            b'd' => Kind::Drain,
+            b'e' => Kind::Respond,
+            b'g' => Kind::RespondFree,
+            b's' => Kind::Window,
+            b'n' => Kind::Run,
+            b'i' => Kind::InterruptLine,
+            b'v' => Kind::Pcr,
+            b'q' => Kind::Permission,
+            b' ' => Kind::Heading,
+            _ => Kind::Unknown,
+        }
+    }
+}
+
+// The name and the rest of a line may be any bytes: the sheet is standard input.
 #[derive(Clone, Copy)]
 pub struct Step {
     pub label: [u8; 22],
-    pub kind: u8,
+    pub kind: Kind,
     pub high: u8,
     pub low: u8,
     pub byte: u8,
     pub rest: [u8; 40],
 }
 
-fn wide(b: u8) -> u64
-    ensures { result < 256 }
-{
-    b as u64
-}
-
-// A hexadecimal digit's value.
+// A hexadecimal digit's value; any other character has one too, unlike for `char::to_digit`.
 fn digit(c: u8) -> u8
     ensures { result < 16 }
 {
@@ -28,90 +70,54 @@ pub fn byte(high: u8, low: u8) -> u8 {
     digit(high) * 16 + digit(low)
 }
 
-fn label(line: [u8; 72]) -> [u8; 22] {
-    let mut out = [0u8; 22];
-    let mut i: usize = 0;
-    while i < 22 {
-        out[i] = line[i];
-        i += 1;
+impl Step {
+    pub fn parse(text: &[u8]) -> Step {
+        let mut line = [b' '; WIDTH];
+        for (to, from) in line.iter_mut().zip(text) {
+            *to = *from;
+        }
+        Step {
+            label: *line.first_chunk().unwrap(),
+            kind: Kind::from(line[22]),
+            high: byte(line[24], line[25]),
+            low: byte(line[26], line[27]),
+            byte: byte(line[29], line[30]),
+            rest: *line.last_chunk().unwrap(),
+        }
     }
-    out
-}
 
-fn rest(line: [u8; 72]) -> [u8; 40] {
-    let mut out = [0u8; 40];
-    let mut i: usize = 0;
-    while i < 40 {
-        out[i] = line[32 + i];
-        i += 1;
+    pub fn offset(&self) -> u64
+        ensures { result < 65536 }
+    {
+        u64::from(u16::from_be_bytes([self.high, self.low]))
     }
-    out
-}
 
-pub fn parsed(line: [u8; 72]) -> Step {
-    Step {
-        label: label(line),
-        kind: line[22],
-        high: byte(line[24], line[25]),
-        low: byte(line[26], line[27]),
-        byte: byte(line[29], line[30]),
-        rest: rest(line),
+    // Six hexadecimal digits behind the byte: how many times.
+    pub fn times(&self) -> usize
+        ensures { result < 16777216 }
+    {
+        let [a, b, c, d, e, f, ..] = self.rest;
+        u32::from_be_bytes([0, byte(a, b), byte(c, d), byte(e, f)]) as usize
     }
-}
 
-// The offset.
-pub fn place(s: Step) -> u64
-    ensures { result < 65536 }
-{
-    wide(s.high) * 256 + wide(s.low)
-}
-
-// Six hexadecimal digits behind the byte: how many times.
-pub fn times(rest: [u8; 40]) -> u64
-    ensures { result < 16777216 }
-{
-    let a = byte(rest[0], rest[1]);
-    let b = byte(rest[2], rest[3]);
-    let c = byte(rest[4], rest[5]);
-    wide(a) * 65536 + wide(b) * 256 + wide(c)
-}
-
-// The lesser of the two.
-pub fn least(a: usize, b: usize) -> usize
-    ensures { (result ≤ a) × (result ≤ b) }
-{
-    if a < b {
-        return a;
+    // Twenty bytes, two hexadecimal digits each.
+    pub fn answer(&self) -> [u8; 20] {
+        let mut answer = [0u8; 20];
+        let (digits, _) = self.rest.as_chunks::<2>();
+        for (to, [high, low]) in answer.iter_mut().zip(digits) {
+            *to = byte(*high, *low);
+        }
+        answer
     }
-    b
-}
 
-// The first n bytes, or all if there are fewer.
-pub fn front<'a>(all: &'a [u8], n: usize) -> &'a [u8] {
-    if n <= all.len() {
-        return &all[..n];
+    // Bytes that the sheet leaves free, in the room: the line's byte and those after it, modulo 251, as many as the line says and there is room.
+    pub fn free_bytes<'a>(&self, room: &'a mut [u8]) -> &'a [u8] {
+        let n = self.times().min(room.len());
+        let mut next = self.byte % 251;
+        for byte in &mut room[..n] {
+            *byte = next;
+            next = next.wrapping_add(1) % 251;
+        }
+        &room[..n]
     }
-    all
-}
-
-// Bytes that the sheet leaves free: the first one and those after it, modulo 251.
-pub fn free_bytes(out: &mut [u8], first: u8) {
-    let mut v = first % 251;
-    let mut i: usize = 0;
-    while i < out.len() {
-        out[i] = v;
-        v = (v + 1) % 251;
-        i += 1;
-    }
-}
-
-// Twenty bytes, two hexadecimal digits each.
-pub fn answer(rest: [u8; 40]) -> [u8; 20] {
-    let mut a = [0u8; 20];
-    let mut i: usize = 0;
-    while i < 20 {
-        a[i] = byte(rest[2 * i], rest[2 * i + 1]);
-        i += 1;
-    }
-    a
 }

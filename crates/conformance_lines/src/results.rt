@@ -1,154 +1,151 @@
-// What came of each kind of line, beside what it expects.
-use crate::line::{Step, byte, place};
-use crate::show::{compare, compare_texts, hex, pair, say};
+// What came of each kind of line, beside what it expects. A line's name and the rest of it may be any bytes: they are written as they are.
+use crate::line::{Step, byte};
+use crate::show::{Pair, verdict};
+use std::fmt::Display;
+use std::io;
 
-// The entry.
-fn named(s: Step) {
-    let label = s.label;
-    say(&label);
+// The entry, and what came.
+fn show(rt: &impl Print, s: &Step, text: impl Display + Drop) -> io::Result<()> {
+    rt.write_all(&s.label)?;
+    rt.println(text)
 }
 
-fn cycle(what: &[u8], s: Step) {
-    named(s);
-    say(what);
-    hex(s.high);
-    hex(s.low);
+// One comparison; `also` says whether all else is as expected.
+fn compare(
+    rt: &impl Print,
+    s: &Step,
+    what: impl Display + Drop,
+    pair: Pair,
+    also: bool,
+) -> io::Result<()> {
+    let verdict = verdict(also & pair.same());
+    show(rt, s, format_args!("{what}{pair}{verdict}"))
 }
 
-pub fn show_reset(s: Step, refusal: u8) {
-    named(s);
-    say(b"reset                         refusal   ");
-    compare(s.byte, refusal, true);
+// Two comparisons, of a byte and of refusal numbers.
+fn compare_both(
+    rt: &impl Print,
+    s: &Step,
+    what: impl Display + Drop,
+    value: Pair,
+    refusal: &str,
+    number: Pair,
+) -> io::Result<()> {
+    let what = format_args!("{what}{value}  {refusal}");
+    compare(rt, s, what, number, value.same())
 }
 
-// The low three bytes of a count.
-fn count(n: u64) {
-    hex((n / 65536 % 256) as u8);
-    hex((n / 256 % 256) as u8);
-    hex((n % 256) as u8);
+// Two comparisons, of the line's byte as refusal number and of the text behind it.
+fn compare_texts(
+    rt: &impl Print,
+    s: &Step,
+    what: impl Display + Drop,
+    refusal: u8,
+    got: [u8; 40],
+    also: bool,
+) -> io::Result<()> {
+    let number = Pair::new(s.byte, refusal);
+    rt.write_all(&s.label)?;
+    print!(rt; "{what}    refusal   {number}  expected ")?;
+    rt.write_all(&s.rest)?;
+    rt.print("  got ")?;
+    rt.write_all(&got)?;
+    rt.println(verdict(also & number.same() & (got == s.rest)))
+}
+
+pub fn show_reset(rt: &impl Print, s: &Step, refusal: u8) -> io::Result<()> {
+    let what = "reset                         refusal   ";
+    compare(rt, s, what, Pair::new(s.byte, refusal), true)
 }
 
 // A power-on with FIFOs of so many bytes.
-pub fn show_power_on(s: Step, length: usize, refusal: u8) {
-    named(s);
-    say(b"power-on, C = ");
-    count(length as u64);
-    say(b"h         refusal   ");
-    compare(s.byte, refusal, true);
+pub fn show_power_on(rt: &impl Print, s: &Step, length: usize, refusal: u8) -> io::Result<()> {
+    let what = format_args!("power-on, C = {length:06x}h         refusal   ");
+    compare(rt, s, what, Pair::new(s.byte, refusal), true)
 }
 
 // n writes from the line's byte on; `how` says whether of that byte or of those after it too.
-fn writes(s: Step, how: &[u8], n: u64, refusals: u8) {
-    let rest = s.rest;
-    cycle(b"write to ", s);
-    say(b", ");
-    hex(s.byte);
-    say(how);
-    count(n);
-    say(b"    refusals  ");
-    compare(byte(rest[7], rest[8]), refusals, true);
+pub fn show_writes(rt: &impl Print, s: &Step, how: &str, n: usize, refusals: u8) -> io::Result<()> {
+    let (offset, first) = (s.offset(), s.byte);
+    let what = format_args!("write to {offset:04x}, {first:02x}{how}{n:06x}    refusals  ");
+    let expected = byte(s.rest[7], s.rest[8]);
+    compare(rt, s, what, Pair::new(expected, refusals), true)
 }
 
-pub fn show_write(s: Step, n: u64, refusals: u8) {
-    writes(s, b" x ", n, refusals);
+pub fn show_text(rt: &impl Print, s: &Step, refusals: u8) -> io::Result<()> {
+    let what = format_args!("text to {:04x}                  refusals  ", s.offset());
+    compare(rt, s, what, Pair::new(0, refusals), true)
 }
 
-pub fn show_fill(s: Step, n: u64, refusals: u8) {
-    writes(s, b".. ", n, refusals);
-}
-
-pub fn show_text(s: Step, refusals: u8) {
-    cycle(b"text to ", s);
-    say(b"                  refusals  ");
-    compare(0, refusals, true);
-}
-
-// The line's byte and the refusal number behind it.
-fn compare_both(s: Step, got: u8, refusal: u8) {
-    let rest = s.rest;
-    let same = pair(s.byte, got);
-    say(b"  refusal");
-    compare(byte(rest[0], rest[1]), refusal, same);
-}
-
-pub fn show_read(s: Step, got: u8, refusal: u8) {
-    cycle(b"read ", s);
-    say(b"                     byte      ");
-    compare_both(s, got, refusal);
+// The refusal number expected is behind the line's byte.
+pub fn show_read(rt: &impl Print, s: &Step, got: u8, refusal: u8) -> io::Result<()> {
+    let what = format_args!("read {:04x}                     byte      ", s.offset());
+    let number = Pair::new(byte(s.rest[0], s.rest[1]), refusal);
+    compare_both(rt, s, what, Pair::new(s.byte, got), "refusal", number)
 }
 
 // n reads that should give the line's byte and those after it: the bits in which any of them differs, and of all their refusal numbers.
-pub fn show_drain(s: Step, n: u64, differences: u8, refusals: u8) {
-    let rest = s.rest;
-    cycle(b"read ", s);
-    say(b", ");
-    hex(s.byte);
-    say(b".. ");
-    count(n);
-    say(b"        differ    ");
-    let same = pair(0, differences);
-    say(b"  refusals");
-    compare(byte(rest[7], rest[8]), refusals, same);
+pub fn show_drain(
+    rt: &impl Print,
+    s: &Step,
+    n: usize,
+    differences: u8,
+    refusals: u8,
+) -> io::Result<()> {
+    let (offset, first) = (s.offset(), s.byte);
+    let what = format_args!("read {offset:04x}, {first:02x}.. {n:06x}        differ    ");
+    let numbers = Pair::new(byte(s.rest[7], s.rest[8]), refusals);
+    compare_both(rt, s, what, Pair::new(0, differences), "refusals", numbers)
 }
 
-// Two answers as a byte: 2 for the first, 1 for the second.
-fn two(first: bool, second: bool) -> u8 {
-    if first {
-        return if second { 3 } else { 2 };
-    }
-    if second { 1 } else { 0 }
+// The two answers are the bits of a byte; the refusal number expected is behind the line's byte.
+pub fn show_permission(
+    rt: &impl Print,
+    s: &Step,
+    reset: bool,
+    extend: bool,
+    refusal: u8,
+) -> io::Result<()> {
+    let what = format_args!("permission {:04x}               byte      ", s.offset());
+    let got = u8::from(reset) << 1 | u8::from(extend);
+    let number = Pair::new(byte(s.rest[0], s.rest[1]), refusal);
+    compare_both(rt, s, what, Pair::new(s.byte, got), "refusal", number)
 }
 
-pub fn show_permission(s: Step, reset: bool, extend: bool, refusal: u8) {
-    cycle(b"permission ", s);
-    say(b"               byte      ");
-    compare_both(s, two(reset, extend), refusal);
-}
-
-pub fn show_answer(s: Step, refusal: u8) {
-    named(s);
-    say(b"respond to run ");
-    hex(s.low);
-    say(b"             refusal   ");
-    compare(s.high, refusal, true);
-}
-
-// The line's byte as refusal number, and the text behind it.
-fn compare_answer(s: Step, got: [u8; 40], refusal: u8, also: bool) {
-    say(b"    refusal   ");
-    let same = pair(s.byte, refusal);
-    let expected = s.rest;
-    compare_texts(expected, got, also & same);
+pub fn show_answer(rt: &impl Print, s: &Step, refusal: u8) -> io::Result<()> {
+    let what = format_args!("respond to run {:02x}             refusal   ", s.low);
+    compare(rt, s, what, Pair::new(s.high, refusal), true)
 }
 
 // The window's length and the digest of its bytes.
-pub fn show_window(s: Step, length: usize, got: [u8; 40], refusal: u8) {
-    let n = length as u64;
-    cycle(b"window of ", s);
-    say(b", got ");
-    count(n);
-    compare_answer(s, got, refusal, n == place(s));
+pub fn show_window(
+    rt: &impl Print,
+    s: &Step,
+    length: usize,
+    got: [u8; 40],
+    refusal: u8,
+) -> io::Result<()> {
+    let offset = s.offset();
+    let what = format_args!("window of {offset:04x}, got {length:06x}");
+    compare_texts(rt, s, what, refusal, got, length as u64 == offset)
 }
 
-pub fn show_run(s: Step, run: u32) {
-    named(s);
-    say(b"                              run number");
-    compare(s.byte, (run % 256) as u8, run == s.byte as u32);
+pub fn show_run(rt: &impl Print, s: &Step, run: u32) -> io::Result<()> {
+    let what = "                              run number";
+    let low = Pair::new(s.byte, (run % 256) as u8);
+    compare(rt, s, what, low, run == u32::from(s.byte))
 }
 
-pub fn show_line(s: Step, asserted: bool) {
-    named(s);
-    say(b"interrupt line                asserted  ");
-    compare(s.byte, two(false, asserted), true);
+pub fn show_line(rt: &impl Print, s: &Step, asserted: bool) -> io::Result<()> {
+    let what = "interrupt line                asserted  ";
+    compare(rt, s, what, Pair::new(s.byte, u8::from(asserted)), true)
 }
 
-pub fn show_pcr(s: Step, got: [u8; 40], refusal: u8) {
-    cycle(b"PCR ", s);
-    say(b"                  ");
-    compare_answer(s, got, refusal, true);
+pub fn show_pcr(rt: &impl Print, s: &Step, got: [u8; 40], refusal: u8) -> io::Result<()> {
+    let what = format_args!("PCR {:04x}                  ", s.offset());
+    compare_texts(rt, s, what, refusal, got, true)
 }
 
-pub fn show_unknown(s: Step) {
-    named(s);
-    say(b"is not understood\n");
+pub fn show_unknown(rt: &impl Print, s: &Step) -> io::Result<()> {
+    show(rt, s, "is not understood")
 }

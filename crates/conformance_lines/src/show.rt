@@ -1,61 +1,30 @@
-// Writes a line of the sheet as text.
-ghost use Rattle.std.specs.Prelude.{◌<◌};
+// What a line expects and what came, as text.
+use std::fmt;
 
-const STDOUT_FILENO: i32 = 1;
-
-const DIGITS: [u8; 16] = *b"0123456789abcdef";
-
-pub fn say(text: &[u8]) {
-    io::write_all(STDOUT_FILENO, text);
+// A byte that is expected, and the one that came.
+#[derive(Clone, Copy, PartialEq, Eq)]
+pub struct Pair {
+    pub expected: u8,
+    pub got: u8,
 }
 
-fn wide(b: u8) -> u64
-    ensures { result < 256 }
-{
-    b as u64
-}
+impl Pair {
+    pub fn new(expected: u8, got: u8) -> Pair {
+        Pair { expected, got }
+    }
 
-fn digit(n: u64)
-    requires { n < 16 }
-{
-    let digits = DIGITS;
-    let out = [digits[n as usize]];
-    say(&out);
-}
-
-pub fn hex(b: u8) {
-    let n = wide(b);
-    digit(n / 16);
-    digit(n % 16);
-}
-
-fn verdict(same: bool) {
-    if same {
-        say(b"  ok\n");
-    } else {
-        say(b"  DIFFERS\n");
+    pub fn same(self) -> bool {
+        self.expected == self.got
     }
 }
 
-// What is expected and what came, and whether they are the same.
-pub fn pair(expected: u8, got: u8) -> bool {
-    say(b"  expected ");
-    hex(expected);
-    say(b"  got ");
-    hex(got);
-    expected == got
+impl fmt::Display for Pair {
+    fn fmt<W: fmt::Write>(&self, f: &mut fmt::Formatter<W>) -> fmt::Result {
+        write!(f, "  expected {:02x}  got {:02x}", self.expected, self.got)
+    }
 }
 
 // The end of a line.
-pub fn compare(expected: u8, got: u8, also: bool) {
-    let same = pair(expected, got);
-    verdict(also & same);
-}
-
-pub fn compare_texts(expected: [u8; 40], got: [u8; 40], also: bool) {
-    say(b"  expected ");
-    say(&expected);
-    say(b"  got ");
-    say(&got);
-    verdict(also & check::same(&got, &expected));
+pub fn verdict(same: bool) -> &'static str {
+    if same { "  ok" } else { "  DIFFERS" }
 }

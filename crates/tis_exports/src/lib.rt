@@ -1,8 +1,6 @@
 // The register front for callers that are not Rattle: plays cycles from a slice, as often as asked. What the benchmark links.
 #![tactic(auto)]
 
-ghost use Rattle.std.specs.Prelude.{◌<◌};
-
 use record::Device;
 use refusal::number_of;
 
@@ -13,54 +11,36 @@ struct Turn {
     sum: u64,
 }
 
-fn wide(b: u8) -> u64
-    ensures { result < 256 }
-{
-    b as u64
-}
-
-fn plus(sum: u64, b: u8) -> u64 {
-    std::num::wrapping_add_u64(sum, wide(b))
-}
-
 // Four bytes each: 0 reads, 1 writes, anything else answers; the offset, high byte first; the byte written. The calls stand in the loop,
 // since a function between would copy the record once more.
-fn once(
-    device: Device,
-    w: &mut [u8],
-    r: &mut [u8],
-    script: &[u8],
-    answer: &[u8],
-    sum: u64,
-) -> Turn {
-    let mut d = device;
-    let mut total = sum;
-    let n = script.len() / 4;
-    let mut i: usize = 0;
-    while i < n {
-        let at = 4 * i;
-        i += 1;
-        let kind = script[at];
-        let offset = wide(script[at + 1]) * 256 + wide(script[at + 2]);
-        if kind == 0 {
-            let o = tis::read(d, w, r, offset);
-            d = o.device;
-            total = plus(total, o.byte);
-        } else if kind == 1 {
-            let o = tis::write(d, w, r, offset, script[at + 3]);
-            d = o.device;
-            total = plus(total, number_of(o.refusal));
-        } else {
-            let control = d.control;
-            let o = tis::respond(d, w, r, control.run, answer);
-            d = o.device;
-            total = plus(total, number_of(o.refusal));
-        }
+fn once(turn: Turn, w: &mut [u8], r: &mut [u8], script: &[u8], answer: &[u8]) -> Turn {
+    let Turn {
+        mut device,
+        mut sum,
+    } = turn;
+    let (cycles, _) = script.as_chunks::<4>();
+    for [kind, high, low, byte] in cycles {
+        let offset = u64::from(u16::from_be_bytes([*high, *low]));
+        let shown = match kind {
+            0 => {
+                let o = tis::read(device, w, r, offset);
+                device = o.device;
+                o.byte
+            }
+            1 => {
+                let o = tis::write(device, w, r, offset, *byte);
+                device = o.device;
+                number_of(o.refusal)
+            }
+            _ => {
+                let o = tis::respond(device, w, r, device.control.run, answer);
+                device = o.device;
+                number_of(o.refusal)
+            }
+        };
+        sum = sum.wrapping_add(u64::from(shown));
     }
-    Turn {
-        device: d,
-        sum: total,
-    }
+    Turn { device, sum }
 }
 
 // Plays the script so many times from a power-on with the FIFOs lent. Answers the sum.
@@ -72,15 +52,13 @@ pub extern "C" fn tis_play(
     r: &mut [u8],
     times: u64,
 ) -> u64 {
-    let o = tis::power_on(false, [0u8; 5], w, r);
-    let mut d = o.device;
-    let mut sum: u64 = 0;
-    let mut i: u64 = 0;
-    while i < times {
-        i += 1;
-        let t = once(d, w, r, script, answer, sum);
-        d = t.device;
-        sum = t.sum;
+    let o = tis::power_on(false, [0; 5], w, r);
+    let mut turn = Turn {
+        device: o.device,
+        sum: 0,
+    };
+    for _ in 0..times {
+        turn = once(turn, w, r, script, answer);
     }
-    sum
+    turn.sum
 }
