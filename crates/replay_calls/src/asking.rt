@@ -1,73 +1,37 @@
 // The questions: each puts its outcome and gives how many bytes that has.
-use crate::dump::dump;
+use crate::{put_length, put_refusal};
 use arbiter::Locality;
 use pcr::{PcrIndex, Permission};
 use record::Device;
-use replay_form::LONGEST;
-use replay_form::fields::{byte_at, put, put_all, put_flag, put_u16};
-use replay_form::tape::least;
+use replay_form::fields::{byte_at, put, put_all};
 
-fn pcr_value(device: Device, args: &[u8], out: &mut [u8]) -> usize {
+pub fn pcr_value(device: Device, args: &[u8], out: &mut [u8]) -> usize {
     let o = tis::pcr_value(device, PcrIndex(byte_at(args, 0)));
-    let value = o.value;
-    put(out, 0, o.refusal);
-    put_all(out, 1, &value);
-    21
+    put_all(out, 1, &o.value);
+    put_refusal(out, o.refusal) + 20
 }
 
-fn interrupt_line(device: Device, out: &mut [u8]) -> usize {
-    put_flag(out, 0, tis::interrupt_line(device));
+pub fn interrupt_line(device: Device, out: &mut [u8]) -> usize {
+    put(out, 0, u8::from(tis::interrupt_line(device)));
     1
 }
 
-fn permission(p: Permission, out: &mut [u8]) -> usize {
-    put(out, 0, p.refusal);
-    put_flag(out, 1, p.allowed);
-    2
-}
-
-fn may_reset(args: &[u8], out: &mut [u8]) -> usize {
-    permission(
-        tis::may_reset(PcrIndex(byte_at(args, 0)), Locality(byte_at(args, 1))),
-        out,
-    )
-}
-
-fn may_extend(args: &[u8], out: &mut [u8]) -> usize {
-    permission(
-        tis::may_extend(PcrIndex(byte_at(args, 0)), Locality(byte_at(args, 1))),
-        out,
-    )
-}
-
-fn put_window(out: &mut [u8], refusal: u8, part: &[u8]) -> usize {
-    let n = part.len();
-    put(out, 0, refusal);
-    put_u16(out, 1, n as u64);
-    put_all(out, 3, part);
-    3 + least(n, LONGEST)
-}
-
-fn window<'a>(device: Device, w: &'a [u8], r: &'a [u8], out: &mut [u8]) -> usize {
-    let mut refusal = 0u8;
-    let part = tis::window(device, w, r, &mut refusal);
-    put_window(out, refusal, part)
-}
-
-pub fn question<'a>(
-    kind: u8,
-    device: Device,
-    w: &'a [u8],
-    r: &'a [u8],
+// May a PCR be reset, or extended, by a locality, as `may` says.
+pub fn permission<F: FnOnce(PcrIndex, Locality) -> Permission>(
+    may: F,
     args: &[u8],
     out: &mut [u8],
-) -> usize {
-    match kind {
-        b'V' => pcr_value(device, args, out),
-        b'L' => interrupt_line(device, out),
-        b'C' => may_reset(args, out),
-        b'E' => may_extend(args, out),
-        b'M' => window(device, w, r, out),
-        _ => dump(device, w, r, out),
-    }
+) -> usize
+    requires { F.IsAlwaysCallable may }
+{
+    let p = may(PcrIndex(byte_at(args, 0)), Locality(byte_at(args, 1)));
+    put(out, 1, u8::from(p.allowed));
+    put_refusal(out, p.refusal) + 1
+}
+
+pub fn window(device: Device, w: &[u8], r: &[u8], out: &mut [u8]) -> usize {
+    let mut refusal = 0;
+    let bytes = tis::window(device, w, r, &mut refusal);
+    put_all(out, 3, bytes);
+    put_refusal(out, refusal) + 2 + put_length(out, 1, bytes)
 }

@@ -1,53 +1,64 @@
-// The calls that may change the record; a read is `tis::read` as it stands.
+// The calls that may change the record: each leaves it, puts its outcome and gives how many bytes that has.
+use crate::put_refusal;
 use record::Device;
-use replay_form::fields::{byte_at, take, u32_at, u64_at};
-use tis::ReadOutcome;
+use replay_form::fields::{byte_at, bytes_at, put, u32_at, u64_at};
+use tis::Outcome;
 
-// With no byte, where the call is no read.
-fn outcome(refusal: u8, device: Device) -> ReadOutcome {
-    ReadOutcome {
-        refusal,
-        byte: 0,
+// A call that has nothing to say but its refusal.
+fn settle(o: Outcome, device: &mut Device, out: &mut [u8]) -> usize {
+    *device = o.device;
+    put_refusal(out, o.refusal)
+}
+
+pub fn power_on(
+    device: &mut Device,
+    w: &mut [u8],
+    r: &mut [u8],
+    args: &[u8],
+    out: &mut [u8],
+) -> usize {
+    let established = byte_at(args, 0) == 1;
+    settle(
+        tis::power_on(established, bytes_at(args, 1), w, r),
         device,
-    }
+        out,
+    )
 }
 
-fn power_on(w: &mut [u8], r: &mut [u8], args: &[u8]) -> ReadOutcome {
-    let mut identity = [0u8; 5];
-    take(args, 1, &mut identity);
-    let o = tis::power_on(byte_at(args, 0) == 1, identity, w, r);
-    let d = o.device;
-    outcome(o.refusal, d)
+pub fn reset(device: &mut Device, w: &mut [u8], r: &mut [u8], out: &mut [u8]) -> usize {
+    settle(tis::reset(*device, w, r), device, out)
 }
 
-fn reset(device: Device, w: &mut [u8], r: &mut [u8]) -> ReadOutcome {
-    let o = tis::reset(device, w, r);
-    let d = o.device;
-    outcome(o.refusal, d)
+pub fn read(device: &mut Device, w: &mut [u8], r: &mut [u8], args: &[u8], out: &mut [u8]) -> usize {
+    let o = tis::read(*device, w, r, u64_at(args, 0));
+    *device = o.device;
+    put(out, 1, o.byte);
+    put_refusal(out, o.refusal) + 1
 }
 
-fn write(device: Device, w: &mut [u8], r: &mut [u8], args: &[u8]) -> ReadOutcome {
-    let o = tis::write(device, w, r, u64_at(args, 0), byte_at(args, 8));
-    let d = o.device;
-    outcome(o.refusal, d)
+pub fn write(
+    device: &mut Device,
+    w: &mut [u8],
+    r: &mut [u8],
+    args: &[u8],
+    out: &mut [u8],
+) -> usize {
+    let o = tis::write(*device, w, r, u64_at(args, 0), byte_at(args, 8));
+    settle(o, device, out)
 }
 
-fn respond(device: Device, w: &mut [u8], r: &mut [u8], args: &[u8]) -> ReadOutcome {
-    // Run number and length are there, or the call would have been cut short.
-    if args.len() < 6 {
-        return outcome(refusal::ANSWER_LENGTH, device);
-    }
-    let o = tis::respond(device, w, r, u32_at(args, 0) as u32, &args[6..]);
-    let d = o.device;
-    outcome(o.refusal, d)
-}
-
-pub fn change(kind: u8, device: Device, w: &mut [u8], r: &mut [u8], args: &[u8]) -> ReadOutcome {
-    match kind {
-        b'P' => power_on(w, r, args),
-        b'Z' => reset(device, w, r),
-        b'R' => tis::read(device, w, r, u64_at(args, 0)),
-        b'W' => write(device, w, r, args),
-        _ => respond(device, w, r, args),
-    }
+// Run number and length stand before the answer, or the call would have been cut short.
+pub fn respond(
+    device: &mut Device,
+    w: &mut [u8],
+    r: &mut [u8],
+    args: &[u8],
+    out: &mut [u8],
+) -> usize {
+    let answer = args.get(6..).unwrap_or(&[]);
+    settle(
+        tis::respond(*device, w, r, u32_at(args, 0), answer),
+        device,
+        out,
+    )
 }

@@ -1,10 +1,12 @@
-// The form in which calls come and outcomes go (docs/REPLAY.md): numbers at a place, the length of a call, the buffers, the faults of a stream.
+// The form in which calls come and outcomes go (docs/REPLAY.md): numbers at a place, opcodes and calls, the buffers, the faults of a stream.
 #![tactic(auto)]
 
+pub mod call;
 pub mod fault;
 pub mod fields;
-pub mod frame;
-pub mod tape;
+pub mod input;
+pub mod opcode;
+pub mod output;
 
 // The greatest length of an answer and of a FIFO: above the greatest C, so that lengths beyond it are played too.
 pub const LONGEST: usize = 9000;
@@ -17,3 +19,9 @@ pub const FLAGS: usize = 20;
 
 // Where the phase stands in it.
 pub const PHASE: usize = 21;
+
+// The bytes of the input's buffer, and of the output's.
+const ROOM: usize = 65536;
+
+// More than any call and any outcome takes.
+const MARGIN: usize = 19000;

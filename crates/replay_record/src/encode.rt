@@ -1,81 +1,79 @@
 // The image of a record.
-use crate::flags::{flags_of, put_flags};
+use crate::flags::{
+    ACTIVE, ENABLE, ESTABLISHED, GLOBAL, SEIZED, SEQUENCE, STATUS, WAITING, put_causes, put_flags,
+};
 use crate::{BANK, FIRST_COUNT, HASHED, IDENTITY, LOCALITY, RUN, SECOND_COUNT, TAIL, WORDS};
-use arbiter::Owner;
+use arbiter::{Arbiter, Owner};
 use pcr::{PCRS, Pcr};
-use record::{Control, Device, Phase};
+use record::{Control, Device, Interrupts, Launch, Phase};
 use replay_form::PHASE;
 use replay_form::fields::{put, put_all, put_u16, put_u32};
 use sha1_message::Stream;
 
-fn locality_of(o: Owner) -> u8 {
-    match o {
-        Owner::Nobody => 0,
-        Owner::Held(x) => x.0,
-    }
+fn put_owner(out: &mut [u8], active: Owner) {
+    let (held, x) = match active {
+        Owner::Nobody => (false, 0),
+        Owner::Held(x) => (true, x.0),
+    };
+    put_flags(out, ACTIVE, [held]);
+    put(out, LOCALITY, x);
 }
 
-fn put_phase(out: &mut [u8], kind: u8, n: u16, k: u16) {
-    put(out, PHASE, kind);
-    put_u16(out, FIRST_COUNT, n as u64);
-    put_u16(out, SECOND_COUNT, k as u64);
+fn put_arbiter(out: &mut [u8], a: Arbiter) {
+    put_owner(out, a.active);
+    put_flags(out, WAITING, a.waiting);
+    put_flags(out, SEIZED, a.seized);
 }
 
-fn put_phase_of(out: &mut [u8], p: Phase) {
-    match p {
-        Phase::Idle => put_phase(out, 0, 0, 0),
-        Phase::Ready => put_phase(out, 1, 0, 0),
-        Phase::Reception(n) => put_phase(out, 2, n, 0),
-        Phase::Execution(n) => put_phase(out, 3, n, 0),
-        Phase::Completion(n, k) => put_phase(out, 4, n, k),
-    }
-}
-
-fn put_words(out: &mut [u8], h: [u32; 5]) {
-    put_u32(out, WORDS, h[0]);
-    put_u32(out, WORDS + 4, h[1]);
-    put_u32(out, WORDS + 8, h[2]);
-    put_u32(out, WORDS + 12, h[3]);
-    put_u32(out, WORDS + 16, h[4]);
-}
-
-fn put_stream(out: &mut [u8], s: Stream) {
-    let h = s.h;
-    let tail = s.tail;
-    put_words(out, h);
-    put_all(out, TAIL, &tail);
-    put_u32(out, HASHED, s.count);
-}
-
-fn put_pcr(out: &mut [u8], at: usize, pcr: Pcr) {
-    let bytes = pcr.bytes;
-    put_all(out, at, &bytes);
-}
-
-fn put_bank(out: &mut [u8], bank: [Pcr; PCRS]) {
-    for i in 0..PCRS {
-        put_pcr(out, BANK + 20 * i, bank[i]);
-    }
+fn put_interrupts(out: &mut [u8], i: Interrupts) {
+    put_flags(out, GLOBAL, [i.global]);
+    put_causes(out, ENABLE, i.enable);
+    put_causes(out, STATUS, i.status);
 }
 
 fn put_control(out: &mut [u8], k: Control) {
-    let a = k.arbiter;
-    let o = a.active;
-    put(out, LOCALITY, locality_of(o));
+    put_arbiter(out, k.arbiter);
+    put_interrupts(out, k.interrupts);
+    put_flags(out, ESTABLISHED, [k.established]);
     put_u32(out, RUN, k.run);
 }
 
+fn put_phase(out: &mut [u8], p: Phase) {
+    let (kind, n, k) = match p {
+        Phase::Idle => (0, 0, 0),
+        Phase::Ready => (1, 0, 0),
+        Phase::Reception(n) => (2, n, 0),
+        Phase::Execution(n) => (3, n, 0),
+        Phase::Completion(n, k) => (4, n, k),
+    };
+    put(out, PHASE, kind);
+    put_u16(out, FIRST_COUNT, n);
+    put_u16(out, SECOND_COUNT, k);
+}
+
+fn put_stream(out: &mut [u8], s: Stream) {
+    for (i, word) in s.h.iter().enumerate() {
+        put_u32(out, WORDS + 4 * i, *word);
+    }
+    put_all(out, TAIL, &s.tail);
+    put_u32(out, HASHED, s.count);
+}
+
+fn put_launch(out: &mut [u8], l: Launch) {
+    put_flags(out, SEQUENCE, [l.sequence]);
+    put_stream(out, l.stream);
+}
+
+fn put_bank(out: &mut [u8], bank: [Pcr; PCRS]) {
+    for (i, pcr) in bank.iter().enumerate() {
+        put_all(out, BANK + 20 * i, &pcr.bytes);
+    }
+}
+
 pub fn put_device(out: &mut [u8], d: Device) {
-    let k = d.control;
-    let p = d.phase;
-    let identity = d.identity;
-    let launch = d.launch;
-    let s = launch.stream;
-    let bank = d.pcrs;
-    put_flags(out, flags_of(k, launch));
-    put_control(out, k);
-    put_phase_of(out, p);
-    put_all(out, IDENTITY, &identity);
-    put_stream(out, s);
-    put_bank(out, bank);
+    put_control(out, d.control);
+    put_phase(out, d.phase);
+    put_all(out, IDENTITY, &d.identity);
+    put_launch(out, d.launch);
+    put_bank(out, d.pcrs);
 }

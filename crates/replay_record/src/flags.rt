@@ -1,34 +1,39 @@
-// The flags of a record in the order of the image; the only place that names each of them.
-use arbiter::{Arbiter, Locality, Owner};
-use record::{Causes, Control, Interrupts, Launch};
-use replay_form::FLAGS;
-use replay_form::fields::{byte_at, put_flag};
-use sha1_message::Stream;
+// The flags of a record's image: a byte each, 0 or 1, and where each of them stands.
+use record::Causes;
+use replay_form::fields::{byte_at, bytes_at, put_all};
 
-pub fn flags_at(image: &[u8]) -> [bool; FLAGS] {
-    let mut f = [false; FLAGS];
-    for i in 0..FLAGS {
-        f[i] = byte_at(image, i) == 1;
+// Some locality is active.
+pub const ACTIVE: usize = 0;
+
+pub const WAITING: usize = 1;
+
+pub const SEIZED: usize = 6;
+
+pub const GLOBAL: usize = 11;
+
+pub const ENABLE: usize = 12;
+
+pub const STATUS: usize = 15;
+
+pub const ESTABLISHED: usize = 18;
+
+pub const SEQUENCE: usize = 19;
+
+// The N flags from a place on.
+pub fn flags_at<const N: usize>(image: &[u8], at: usize) -> [bool; N] {
+    let mut flags = [false; N];
+    for (flag, byte) in flags.iter_mut().zip(&bytes_at::<N>(image, at)) {
+        *flag = *byte == 1;
     }
-    f
+    flags
 }
 
-fn owner(held: bool, x: u8) -> Owner {
-    if held {
-        return Owner::Held(Locality(x));
-    }
-    Owner::Nobody
+pub fn flag_at(image: &[u8], at: usize) -> bool {
+    byte_at(image, at) == 1
 }
 
-fn arbiter_of(f: [bool; FLAGS], x: u8) -> Arbiter {
-    Arbiter {
-        active: owner(f[0], x),
-        waiting: [f[1], f[2], f[3], f[4], f[5]],
-        seized: [f[6], f[7], f[8], f[9], f[10]],
-    }
-}
-
-fn causes(command_ready: bool, locality_change: bool, data_avail: bool) -> Causes {
+pub fn causes_at(image: &[u8], at: usize) -> Causes {
+    let [command_ready, locality_change, data_avail] = flags_at::<3>(image, at);
     Causes {
         command_ready,
         locality_change,
@@ -36,67 +41,22 @@ fn causes(command_ready: bool, locality_change: bool, data_avail: bool) -> Cause
     }
 }
 
-pub fn control_of(f: [bool; FLAGS], x: u8, run: u32) -> Control {
-    Control {
-        arbiter: arbiter_of(f, x),
-        interrupts: Interrupts {
-            global: f[11],
-            enable: causes(f[12], f[13], f[14]),
-            status: causes(f[15], f[16], f[17]),
-        },
-        established: f[18],
-        run,
+pub fn put_flags<const N: usize>(out: &mut [u8], at: usize, flags: [bool; N]) {
+    let mut bytes = [0; N];
+    for (byte, flag) in bytes.iter_mut().zip(&flags) {
+        *byte = u8::from(*flag);
     }
+    put_all(out, at, &bytes);
 }
 
-pub fn launch_of(f: [bool; FLAGS], stream: Stream) -> Launch {
-    Launch {
-        sequence: f[19],
-        stream,
-    }
-}
-
-fn held(o: Owner) -> bool {
-    match o {
-        Owner::Nobody => false,
-        Owner::Held(_x) => true,
-    }
-}
-
-pub fn flags_of(k: Control, launch: Launch) -> [bool; FLAGS] {
-    let a = k.arbiter;
-    let w = a.waiting;
-    let z = a.seized;
-    let o = a.active;
-    let i = k.interrupts;
-    let e = i.enable;
-    let s = i.status;
-    [
-        held(o),
-        w[0],
-        w[1],
-        w[2],
-        w[3],
-        w[4],
-        z[0],
-        z[1],
-        z[2],
-        z[3],
-        z[4],
-        i.global,
-        e.command_ready,
-        e.locality_change,
-        e.data_avail,
-        s.command_ready,
-        s.locality_change,
-        s.data_avail,
-        k.established,
-        launch.sequence,
-    ]
-}
-
-pub fn put_flags(out: &mut [u8], f: [bool; FLAGS]) {
-    for i in 0..FLAGS {
-        put_flag(out, i, f[i]);
-    }
+pub fn put_causes(out: &mut [u8], at: usize, causes: Causes) {
+    put_flags(
+        out,
+        at,
+        [
+            causes.command_ready,
+            causes.locality_change,
+            causes.data_avail,
+        ],
+    );
 }

@@ -1,51 +1,43 @@
-// The record and the lengths of the two FIFOs, as the next call finds them, and one call on them.
+// The record and the two FIFOs, as the next call finds them, and one call on them.
 #![tactic(auto)]
 
+use fifo::Fifo;
 use record::Device;
 use replay_form::IMAGE;
-use replay_form::fields::take;
-use replay_form::frame::length_at;
-use replay_form::tape::least;
+use replay_form::fields::u16_at;
 use replay_record::device_at;
 
-mod change;
-mod question;
-mod turn;
+mod fifo;
+mod play;
 
-pub use turn::play;
-
-#[derive(Clone, Copy)]
+#[derive(Drop)]
 pub struct State {
-    pub device: Device,
-    pub write_length: usize,
-    pub read_length: usize,
+    device: Device,
+    write: Fifo,
+    read: Fifo,
 }
 
-// What a call leaves, and how many bytes its outcome has.
-#[derive(Clone, Copy)]
-pub struct Played {
-    pub state: State,
-    pub put: usize,
-}
+impl State {
+    // Before the first call: as a power-on leaves it, with FIFOs of no byte.
+    pub fn new() -> State {
+        State {
+            device: record::fresh_device(false, [0; 5], 0),
+            write: Fifo::new(),
+            read: Fifo::new(),
+        }
+    }
 
-// Before the first call: as a power-on leaves it, with FIFOs of no byte.
-pub fn start() -> State {
-    State {
-        device: record::fresh_device(false, [0u8; 5], 0),
-        write_length: 0,
-        read_length: 0,
+    // Any record, in shape or not, and any bytes in the FIFOs.
+    fn load(&mut self, args: &[u8]) {
+        let n = usize::from(u16_at(args, IMAGE));
+        let m = usize::from(u16_at(args, IMAGE + 2));
+        self.device = device_at(args);
+        self.write.load(part(args, IMAGE + 4, n));
+        self.read.load(part(args, IMAGE + 4 + n, m));
     }
 }
 
-// Any record, in shape or not, and any bytes in the FIFOs.
-fn load(args: &[u8], w: &mut [u8], r: &mut [u8]) -> State {
-    let n = least(length_at(args, IMAGE), w.len());
-    let m = least(length_at(args, IMAGE + 2), r.len());
-    take(args, IMAGE + 4, &mut w[0..n]);
-    take(args, IMAGE + 4 + n, &mut r[0..m]);
-    State {
-        device: device_at(args),
-        write_length: n,
-        read_length: m,
-    }
+// The n bytes from a place on.
+fn part(s: &[u8], at: usize, n: usize) -> &[u8] {
+    s.get(at..).and_then(|rest| rest.get(..n)).unwrap_or(&[])
 }

@@ -1,0 +1,71 @@
+// The call at the front of a stream: its opcode and its arguments, or why there is none.
+ghost use Rattle.std.specs.Prelude.{◌+◌, ◌≤◌, length, IfOk, IfSome};
+
+use crate::fault::Fault;
+use crate::fields::{byte_at, u16_at};
+use crate::opcode::Opcode;
+use crate::{FLAGS, IMAGE, LONGEST, PHASE};
+
+// An opcode and its arguments, all of them.
+#[derive(Clone, Copy)]
+pub struct Call<'a> {
+    pub opcode: Opcode,
+    pub arguments: &'a [u8],
+}
+
+// The first count bytes, as far as they are there, are flags.
+fn flags(arguments: &[u8], count: usize) -> Result<(), Fault> {
+    if arguments.iter().take(count).all(|flag| *flag < 2) {
+        Ok(())
+    } else {
+        Err(Fault::Flag)
+    }
+}
+
+// A length of bytes that follow.
+fn length_at(arguments: &[u8], at: usize) -> Result<usize, Fault>
+    ensures { IfOk result (λ n. n ≤ 9000) }
+{
+    let n = usize::from(u16_at(arguments, at));
+    if LONGEST < n {
+        return Err(Fault::TooLong);
+    }
+    Ok(n)
+}
+
+fn load(arguments: &[u8]) -> Result<usize, Fault> {
+    flags(arguments, FLAGS)?;
+    if 4 < byte_at(arguments, PHASE) {
+        return Err(Fault::Phase);
+    }
+    let w = length_at(arguments, IMAGE)?;
+    let r = length_at(arguments, IMAGE + 2)?;
+    Ok(IMAGE + 4 + w + r)
+}
+
+// The bytes of a call's arguments, whether they are all there or not.
+fn size(opcode: Opcode, arguments: &[u8]) -> Result<usize, Fault> {
+    match opcode {
+        Opcode::PowerOn => flags(arguments, 1).map(|_| 6),
+        Opcode::Read => Ok(8),
+        Opcode::Write => Ok(9),
+        Opcode::Respond => Ok(6 + length_at(arguments, 4)?),
+        Opcode::PcrValue => Ok(1),
+        Opcode::MayReset | Opcode::MayExtend => Ok(2),
+        Opcode::Load => load(arguments),
+        Opcode::Reset | Opcode::InterruptLine | Opcode::Window | Opcode::Dump => Ok(0),
+    }
+}
+
+// The call at the front of the bytes that are left, if any is.
+pub fn next_call(bytes: &[u8]) -> Result<Option<Call<'_>>, Fault>
+    ensures { IfOk result (λ next. IfSome next (λ call. 1 + length call.arguments.now ≤ length bytes.now)) }
+{
+    let Some((first, rest)) = bytes.split_first() else {
+        return Ok(None);
+    };
+    let opcode = Opcode::try_from(*first)?;
+    let size = size(opcode, rest)?;
+    let arguments = rest.get(..size).ok_or(Fault::Cut)?;
+    Ok(Some(Call { opcode, arguments }))
+}
