@@ -14,7 +14,7 @@ fn turn(input: &mut Input, output: &mut Output, state: &mut State) -> Result<boo
         return Ok(false);
     };
     let size = call.arguments.len();
-    output.put(|out| state.play(call, out));
+    state.play(call, output);
     input.advance(size);
     Ok(true)
 }

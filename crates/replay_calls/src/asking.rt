@@ -1,37 +1,54 @@
-// The questions: each puts its outcome and gives how many bytes that has.
-use crate::{put_length, put_refusal};
+// The questions, and a dump: each puts its outcome.
+use crate::put_refusal;
 use arbiter::Locality;
 use pcr::{PcrIndex, Permission};
 use record::Device;
-use replay_form::fields::{byte_at, put, put_all};
+use replay_form::LONGEST;
+use replay_form::fields::Fields;
+use replay_form::output::Output;
+use replay_record::put_device;
 
-pub fn pcr_value(device: Device, args: &[u8], out: &mut [u8]) -> usize {
-    let o = tis::pcr_value(device, PcrIndex(byte_at(args, 0)));
-    put_all(out, 1, &o.value);
-    put_refusal(out, o.refusal) + 20
+pub fn pcr_value(device: Device, mut args: Fields<'_>, out: &mut Output) {
+    let o = tis::pcr_value(device, PcrIndex(args.byte()));
+    put_refusal(out, o.refusal);
+    out.put(&o.value);
 }
 
-pub fn interrupt_line(device: Device, out: &mut [u8]) -> usize {
-    put(out, 0, u8::from(tis::interrupt_line(device)));
-    1
+pub fn interrupt_line(device: Device, out: &mut Output) {
+    out.put_flags([tis::interrupt_line(device)]);
 }
 
-// May a PCR be reset, or extended, by a locality, as `may` says.
+// Whether a locality may reset a PCR, or extend it, as `may` says.
 pub fn permission<F: FnOnce(PcrIndex, Locality) -> Permission>(
     may: F,
-    args: &[u8],
-    out: &mut [u8],
-) -> usize
+    mut args: Fields<'_>,
+    out: &mut Output,
+)
     requires { F.IsAlwaysCallable may }
 {
-    let p = may(PcrIndex(byte_at(args, 0)), Locality(byte_at(args, 1)));
-    put(out, 1, u8::from(p.allowed));
-    put_refusal(out, p.refusal) + 1
+    let p = may(PcrIndex(args.byte()), Locality(args.byte()));
+    put_refusal(out, p.refusal);
+    out.put_flags([p.allowed]);
 }
 
-pub fn window(device: Device, w: &[u8], r: &[u8], out: &mut [u8]) -> usize {
+// The length of a part of a FIFO, which has no more than 9,000 bytes.
+fn put_length(out: &mut Output, part: &[u8]) {
+    out.put_u16(part.len().min(LONGEST) as u16);
+}
+
+pub fn window(device: Device, w: &[u8], r: &[u8], out: &mut Output) {
     let mut refusal = 0;
     let bytes = tis::window(device, w, r, &mut refusal);
-    put_all(out, 3, bytes);
-    put_refusal(out, refusal) + 2 + put_length(out, 1, bytes)
+    put_refusal(out, refusal);
+    put_length(out, bytes);
+    out.put(bytes);
+}
+
+// The record and both FIFOs, in the form that a load takes them.
+pub fn dump(device: Device, w: &[u8], r: &[u8], out: &mut Output) {
+    put_device(out, device);
+    put_length(out, w);
+    put_length(out, r);
+    out.put(w);
+    out.put(r);
 }

@@ -1,10 +1,19 @@
 // The call at the front of a stream: its opcode and its arguments, or why there is none.
 ghost use Rattle.std.specs.Prelude.{◌+◌, ◌≤◌, length, IfOk, IfSome};
 
+use crate::LONGEST;
 use crate::fault::Fault;
-use crate::fields::{byte_at, u16_at};
+use crate::fields::Fields;
 use crate::opcode::Opcode;
-use crate::{FLAGS, IMAGE, LONGEST, PHASE};
+
+// The bytes of a record's image.
+const IMAGE: usize = 603;
+
+// Its flags come first, one byte each.
+const FLAGS: usize = 20;
+
+// Where the phase stands in it.
+const PHASE: usize = 21;
 
 // An opcode and its arguments, all of them.
 #[derive(Clone, Copy)]
@@ -23,23 +32,30 @@ fn flags(arguments: &[u8], count: usize) -> Result<(), Fault> {
 }
 
 // A length of bytes that follow.
-fn length_at(arguments: &[u8], at: usize) -> Result<usize, Fault>
+fn length(fields: &mut Fields<'_>) -> Result<usize, Fault>
     ensures { IfOk result (λ n. n ≤ 9000) }
 {
-    let n = usize::from(u16_at(arguments, at));
+    let n = usize::from(fields.u16());
     if LONGEST < n {
         return Err(Fault::TooLong);
     }
     Ok(n)
 }
 
+fn respond(mut fields: Fields<'_>) -> Result<usize, Fault> {
+    fields.u32();
+    Ok(6 + length(&mut fields)?)
+}
+
 fn load(arguments: &[u8]) -> Result<usize, Fault> {
     flags(arguments, FLAGS)?;
-    if 4 < byte_at(arguments, PHASE) {
+    if arguments.get(PHASE).is_some_and(|phase| 4 < *phase) {
         return Err(Fault::Phase);
     }
-    let w = length_at(arguments, IMAGE)?;
-    let r = length_at(arguments, IMAGE + 2)?;
+    let mut fields = Fields::new(arguments);
+    fields.bytes(IMAGE);
+    let w = length(&mut fields)?;
+    let r = length(&mut fields)?;
     Ok(IMAGE + 4 + w + r)
 }
 
@@ -49,7 +65,7 @@ fn size(opcode: Opcode, arguments: &[u8]) -> Result<usize, Fault> {
         Opcode::PowerOn => flags(arguments, 1).map(|_| 6),
         Opcode::Read => Ok(8),
         Opcode::Write => Ok(9),
-        Opcode::Respond => Ok(6 + length_at(arguments, 4)?),
+        Opcode::Respond => respond(Fields::new(arguments)),
         Opcode::PcrValue => Ok(1),
         Opcode::MayReset | Opcode::MayExtend => Ok(2),
         Opcode::Load => load(arguments),

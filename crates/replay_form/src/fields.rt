@@ -1,46 +1,68 @@
-// Numbers and bytes at a place of a lent slice, low byte first; past its end a place reads 0 and takes nothing, so no caller shows where it is.
+// What stands in a call's arguments, read one field after the other, numbers low byte first.
 
-pub fn byte_at(s: &[u8], at: usize) -> u8 {
-    s.get(at).copied().unwrap_or(0)
+// The bytes that are not yet read. Where too few are left a field reads 0 or none, and so does each after it; no caller shows that there are enough.
+#[derive(Clone, Copy)]
+pub struct Fields<'a> {
+    rest: &'a [u8],
 }
 
-// The N bytes from a place on.
-pub fn bytes_at<const N: usize>(s: &[u8], at: usize) -> [u8; N] {
-    s.get(at..)
-        .and_then(|rest| rest.first_chunk())
-        .copied()
-        .unwrap_or([0; N])
-}
+impl<'a> Fields<'a> {
+    pub fn new(rest: &'a [u8]) -> Fields<'a> {
+        Fields { rest }
+    }
 
-pub fn u16_at(s: &[u8], at: usize) -> u16 {
-    u16::from_le_bytes(bytes_at(s, at))
-}
-
-pub fn u32_at(s: &[u8], at: usize) -> u32 {
-    u32::from_le_bytes(bytes_at(s, at))
-}
-
-pub fn u64_at(s: &[u8], at: usize) -> u64 {
-    u64::from_le_bytes(bytes_at(s, at))
-}
-
-// All of src from a place on.
-pub fn put_all(out: &mut [u8], at: usize, src: &[u8]) {
-    if let Some(rest) = out.get_mut(at..) {
-        if let Some(to) = rest.get_mut(..src.len()) {
-            to.copy_from_slice(src);
+    pub fn take<const N: usize>(&mut self) -> [u8; N] {
+        match self.rest.split_first_chunk() {
+            Some((field, rest)) => {
+                self.rest = rest;
+                *field
+            }
+            None => {
+                self.rest = &[];
+                [0; N]
+            }
         }
     }
-}
 
-pub fn put(out: &mut [u8], at: usize, byte: u8) {
-    put_all(out, at, &[byte]);
-}
+    // So many bytes.
+    pub fn bytes(&mut self, count: usize) -> &'a [u8] {
+        match self.rest.split_at_checked(count) {
+            Some((field, rest)) => {
+                self.rest = rest;
+                field
+            }
+            None => {
+                self.rest = &[];
+                self.rest
+            }
+        }
+    }
 
-pub fn put_u16(out: &mut [u8], at: usize, n: u16) {
-    put_all(out, at, &n.to_le_bytes());
-}
+    pub fn byte(&mut self) -> u8 {
+        u8::from_le_bytes(self.take())
+    }
 
-pub fn put_u32(out: &mut [u8], at: usize, n: u32) {
-    put_all(out, at, &n.to_le_bytes());
+    pub fn u16(&mut self) -> u16 {
+        u16::from_le_bytes(self.take())
+    }
+
+    pub fn u32(&mut self) -> u32 {
+        u32::from_le_bytes(self.take())
+    }
+
+    pub fn u64(&mut self) -> u64 {
+        u64::from_le_bytes(self.take())
+    }
+
+    pub fn flag(&mut self) -> bool {
+        self.byte() == 1
+    }
+
+    pub fn flags<const N: usize>(&mut self) -> [bool; N] {
+        let mut flags = [false; N];
+        for flag in flags.iter_mut() {
+            *flag = self.flag();
+        }
+        flags
+    }
 }

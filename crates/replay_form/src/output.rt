@@ -1,46 +1,53 @@
 // Standard output, written by as few writes as there can be.
-ghost use Rattle.std.specs.Prelude.{◌≤◌};
-
 use crate::fault::Fault;
 use crate::{MARGIN, ROOM};
+use arrayvec::ArrayVec;
 
 const STDOUT_FILENO: i32 = 1;
 
-// The first `used` bytes are not yet written.
+// The bytes that are not yet written.
 #[derive(Drop)]
 pub struct Output {
-    bytes: [u8; ROOM],
-    used: usize,
-    ghost within: { used ≤ 65536 },
+    bytes: ArrayVec<u8, ROOM>,
 }
 
 impl Output {
     pub fn new() -> Output {
         Output {
-            bytes: [0; ROOM],
-            used: 0,
+            bytes: ArrayVec::new(),
         }
     }
 
     pub fn flush(&mut self) -> Result<(), Fault> {
-        let written = io::write_all(STDOUT_FILENO, &self.bytes[..self.used]);
-        self.used = 0;
+        let written = io::write_all(STDOUT_FILENO, self.bytes.as_slice());
+        self.bytes.clear();
         if written { Ok(()) } else { Err(Fault::Output) }
     }
 
     // Room for an outcome afterwards.
     pub fn make_room(&mut self) -> Result<(), Fault> {
-        if MARGIN <= ROOM - self.used {
+        if MARGIN <= self.bytes.remaining_capacity() {
             return Ok(());
         }
         self.flush()
     }
 
-    // The outcome puts its bytes, and gives how many they are.
-    pub fn put<F: FnOnce(&mut [u8]) -> usize>(&mut self, outcome: F)
-        requires { F.IsAlwaysCallable outcome }
-    {
-        let left = ROOM - self.used;
-        self.used += outcome(&mut self.bytes[self.used..]).min(left);
+    // Part of an outcome: there is room for it.
+    pub fn put(&mut self, part: &[u8]) {
+        let _ = self.bytes.try_extend_from_slice(part);
+    }
+
+    pub fn put_u16(&mut self, n: u16) {
+        self.put(&n.to_le_bytes());
+    }
+
+    pub fn put_u32(&mut self, n: u32) {
+        self.put(&n.to_le_bytes());
+    }
+
+    pub fn put_flags<const N: usize>(&mut self, flags: [bool; N]) {
+        for flag in &flags {
+            self.put(&[u8::from(*flag)]);
+        }
     }
 }

@@ -1,81 +1,90 @@
 // The record of an image.
-use crate::flags::{
-    ACTIVE, ENABLE, ESTABLISHED, GLOBAL, SEIZED, SEQUENCE, STATUS, WAITING, causes_at, flag_at,
-    flags_at,
-};
-use crate::{BANK, FIRST_COUNT, HASHED, IDENTITY, LOCALITY, RUN, SECOND_COUNT, TAIL, WORDS};
 use arbiter::{Arbiter, Locality, Owner};
 use pcr::{PCRS, Pcr};
-use record::{Control, Device, Interrupts, Launch, Phase};
-use replay_form::PHASE;
-use replay_form::fields::{byte_at, bytes_at, u16_at, u32_at};
+use record::{Causes, Control, Device, Interrupts, Launch, Phase};
+use replay_form::fields::Fields;
 use sha1_message::Stream;
-use std::array;
 
-fn owner_at(image: &[u8]) -> Owner {
-    if flag_at(image, ACTIVE) {
-        Owner::Held(Locality(byte_at(image, LOCALITY)))
+fn owner(held: bool, x: u8) -> Owner {
+    if held {
+        Owner::Held(Locality(x))
     } else {
         Owner::Nobody
     }
 }
 
-fn arbiter_at(image: &[u8]) -> Arbiter {
-    Arbiter {
-        active: owner_at(image),
-        waiting: flags_at(image, WAITING),
-        seized: flags_at(image, SEIZED),
+fn causes(image: &mut Fields<'_>) -> Causes {
+    Causes {
+        command_ready: image.flag(),
+        locality_change: image.flag(),
+        data_avail: image.flag(),
     }
 }
 
-fn control_at(image: &[u8]) -> Control {
-    Control {
-        arbiter: arbiter_at(image),
-        interrupts: Interrupts {
-            global: flag_at(image, GLOBAL),
-            enable: causes_at(image, ENABLE),
-            status: causes_at(image, STATUS),
-        },
-        established: flag_at(image, ESTABLISHED),
-        run: u32_at(image, RUN),
+fn interrupts(image: &mut Fields<'_>) -> Interrupts {
+    Interrupts {
+        global: image.flag(),
+        enable: causes(image),
+        status: causes(image),
     }
 }
 
-fn phase_at(image: &[u8]) -> Phase {
-    let n = u16_at(image, FIRST_COUNT);
-    let k = u16_at(image, SECOND_COUNT);
-    match byte_at(image, PHASE) {
-        0 => Phase::Idle,
-        1 => Phase::Ready,
-        2 => Phase::Reception(n),
-        3 => Phase::Execution(n),
-        _ => Phase::Completion(n, k),
+fn phase(image: &mut Fields<'_>) -> Phase {
+    match (image.byte(), image.u16(), image.u16()) {
+        (0, _, _) => Phase::Idle,
+        (1, _, _) => Phase::Ready,
+        (2, n, _) => Phase::Reception(n),
+        (3, n, _) => Phase::Execution(n),
+        (_, n, k) => Phase::Completion(n, k),
     }
 }
 
-fn stream_at(image: &[u8]) -> Stream {
+fn stream(image: &mut Fields<'_>) -> Stream {
+    let mut h = [0; 5];
+    for word in h.iter_mut() {
+        *word = image.u32();
+    }
     Stream {
-        h: array::from_fn(|i| u32_at(image, WORDS + 4 * i)),
-        tail: bytes_at(image, TAIL),
-        count: u32_at(image, HASHED),
+        h,
+        tail: image.take(),
+        count: image.u32(),
     }
 }
 
-fn bank_at(image: &[u8]) -> [Pcr; PCRS] {
-    array::from_fn(|i| Pcr {
-        bytes: bytes_at(image, BANK + 20 * i),
-    })
+fn bank(image: &mut Fields<'_>) -> [Pcr; PCRS] {
+    let mut bank = [Pcr { bytes: [0; 20] }; PCRS];
+    for pcr in bank.iter_mut() {
+        pcr.bytes = image.take();
+    }
+    bank
 }
 
-pub fn device_at(image: &[u8]) -> Device {
-    Device {
-        control: control_at(image),
-        phase: phase_at(image),
-        identity: bytes_at(image, IDENTITY),
-        launch: Launch {
-            sequence: flag_at(image, SEQUENCE),
-            stream: stream_at(image),
+pub fn device_from(image: &mut Fields<'_>) -> Device {
+    let held = image.flag();
+    let waiting = image.flags();
+    let seized = image.flags();
+    let interrupts = interrupts(image);
+    let established = image.flag();
+    let sequence = image.flag();
+    let active = owner(held, image.byte());
+    let phase = phase(image);
+    let identity = image.take();
+    let control = Control {
+        arbiter: Arbiter {
+            active,
+            waiting,
+            seized,
         },
-        pcrs: bank_at(image),
+        interrupts,
+        established,
+        run: image.u32(),
+    };
+    let stream = stream(image);
+    Device {
+        control,
+        phase,
+        identity,
+        launch: Launch { sequence, stream },
+        pcrs: bank(image),
     }
 }

@@ -1,14 +1,15 @@
 // The record and the two FIFOs, as the next call finds them, and one call on them.
 #![tactic(auto)]
 
-use fifo::Fifo;
+use arrayvec::ArrayVec;
 use record::Device;
-use replay_form::IMAGE;
-use replay_form::fields::u16_at;
-use replay_record::device_at;
+use replay_form::LONGEST;
+use replay_form::fields::Fields;
+use replay_record::device_from;
 
-mod fifo;
 mod play;
+
+type Fifo = ArrayVec<u8, LONGEST>;
 
 #[derive(Drop)]
 pub struct State {
@@ -22,22 +23,23 @@ impl State {
     pub fn new() -> State {
         State {
             device: record::fresh_device(false, [0; 5], 0),
-            write: Fifo::new(),
-            read: Fifo::new(),
+            write: ArrayVec::new(),
+            read: ArrayVec::new(),
         }
     }
 
     // Any record, in shape or not, and any bytes in the FIFOs.
-    fn load(&mut self, args: &[u8]) {
-        let n = usize::from(u16_at(args, IMAGE));
-        let m = usize::from(u16_at(args, IMAGE + 2));
-        self.device = device_at(args);
-        self.write.load(part(args, IMAGE + 4, n));
-        self.read.load(part(args, IMAGE + 4 + n, m));
+    fn load(&mut self, mut args: Fields<'_>) {
+        self.device = device_from(&mut args);
+        let n = usize::from(args.u16());
+        let m = usize::from(args.u16());
+        fill(&mut self.write, args.bytes(n));
+        fill(&mut self.read, args.bytes(m));
     }
 }
 
-// The n bytes from a place on.
-fn part(s: &[u8], at: usize, n: usize) -> &[u8] {
-    s.get(at..).and_then(|rest| rest.get(..n)).unwrap_or(&[])
+// There is room for them: a longer FIFO is no call.
+fn fill(fifo: &mut Fifo, bytes: &[u8]) {
+    fifo.clear();
+    let _ = fifo.try_extend_from_slice(bytes);
 }
