@@ -4,7 +4,8 @@
 use replay_form::fault::Fault;
 use replay_form::input::Input;
 use replay_form::output::Output;
-use replay_state::State;
+use replay_record::State;
+use replay_state::play;
 
 // The next call and its outcome, if there is one.
 fn turn(input: &mut Input, output: &mut Output, state: &mut State) -> Result<bool, Fault> {
@@ -14,7 +15,7 @@ fn turn(input: &mut Input, output: &mut Output, state: &mut State) -> Result<boo
         return Ok(false);
     };
     let size = call.arguments.len();
-    state.play(call, output);
+    play(state, call, output);
     input.advance(size);
     Ok(true)
 }

@@ -1,6 +1,6 @@
 // Standard output, written by as few writes as there can be.
 use crate::fault::Fault;
-use crate::{MARGIN, ROOM};
+use crate::{LONGEST, MARGIN, ROOM};
 use arrayvec::ArrayVec;
 
 const STDOUT_FILENO: i32 = 1;
@@ -39,6 +39,11 @@ impl Output {
 
     pub fn put_u16(&mut self, n: u16) {
         self.put(&n.to_le_bytes());
+    }
+
+    // The length of a part of a FIFO, which has no more than 9,000 bytes.
+    pub fn put_length(&mut self, part: &[u8]) {
+        self.put_u16(part.len().min(LONGEST) as u16);
     }
 
     pub fn put_u32(&mut self, n: u32) {

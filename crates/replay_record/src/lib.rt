@@ -1,8 +1,8 @@
-// A record as 603 bytes and back: the flags first, then the numbers and the bytes (docs/REPLAY.md, 'The form').
+// What is loaded and dumped (docs/REPLAY.md, 'The form'): a record as 603 bytes, the flags first, then the numbers and the bytes; and both FIFOs.
 #![tactic(auto)]
 
 mod decode;
 mod encode;
+mod state;
 
-pub use decode::device_from;
-pub use encode::put_device;
+pub use state::State;

@@ -1,45 +1,28 @@
-// The record and the two FIFOs, as the next call finds them, and one call on them.
+// One call of the list on the record and the FIFOs, by its opcode.
 #![tactic(auto)]
 
-use arrayvec::ArrayVec;
-use record::Device;
-use replay_form::LONGEST;
+use replay_calls::{asking, changes};
+use replay_form::call::Call;
 use replay_form::fields::Fields;
-use replay_record::device_from;
+use replay_form::opcode::Opcode;
+use replay_form::output::Output;
+use replay_record::State;
 
-mod play;
-
-type Fifo = ArrayVec<u8, LONGEST>;
-
-#[derive(Drop)]
-pub struct State {
-    device: Device,
-    write: Fifo,
-    read: Fifo,
-}
-
-impl State {
-    // Before the first call: as a power-on leaves it, with FIFOs of no byte.
-    pub fn new() -> State {
-        State {
-            device: record::fresh_device(false, [0; 5], 0),
-            write: ArrayVec::new(),
-            read: ArrayVec::new(),
-        }
+// The call is made, and its outcome put.
+pub fn play(s: &mut State, call: Call<'_>, out: &mut Output) {
+    let args = Fields::new(call.arguments);
+    match call.opcode {
+        Opcode::PowerOn => changes::power_on(s, args, out),
+        Opcode::Reset => changes::reset(s, out),
+        Opcode::Read => changes::read(s, args, out),
+        Opcode::Write => changes::write(s, args, out),
+        Opcode::Respond => changes::respond(s, args, out),
+        Opcode::PcrValue => asking::pcr_value(s, args, out),
+        Opcode::InterruptLine => asking::interrupt_line(s, out),
+        Opcode::MayReset => asking::permission(tis::may_reset, args, out),
+        Opcode::MayExtend => asking::permission(tis::may_extend, args, out),
+        Opcode::Window => asking::window(s, out),
+        Opcode::Load => s.load(args),
+        Opcode::Dump => s.dump(out),
     }
-
-    // Any record, in shape or not, and any bytes in the FIFOs.
-    fn load(&mut self, mut args: Fields<'_>) {
-        self.device = device_from(&mut args);
-        let n = usize::from(args.u16());
-        let m = usize::from(args.u16());
-        fill(&mut self.write, args.bytes(n));
-        fill(&mut self.read, args.bytes(m));
-    }
-}
-
-// There is room for them: a longer FIFO is no call.
-fn fill(fifo: &mut Fifo, bytes: &[u8]) {
-    fifo.clear();
-    let _ = fifo.try_extend_from_slice(bytes);
 }
