@@ -1,6 +1,7 @@
 // What stands in a call's arguments, read one field after the other, numbers low byte first.
 
-// The bytes that are not yet read. Where too few are left a field reads 0 or none, and so does each after it; no caller shows that there are enough.
+// The bytes that are not yet read. Where too few are left a field reads 0 or no byte, and so does each after it: no caller shows that there
+// are enough.
 #[derive(Clone, Copy)]
 pub struct Fields<'a> {
     rest: &'a [u8],
