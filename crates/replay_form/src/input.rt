@@ -22,8 +22,8 @@ pub struct Input {
     stdin: Stdin,
     source: Source,
     bytes: [u8; ROOM],
-    at: usize,
-    end: usize,
+    pub at: usize,
+    pub end: usize,
     ghost ordered: { at ≤ end },
     ghost within: { end ≤ 65536 },
 }
