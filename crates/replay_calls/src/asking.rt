@@ -1,73 +1,37 @@
-// The questions: each puts its outcome and gives how many bytes that has.
-use crate::dump::dump;
+// The questions: each puts its outcome.
+use crate::put_refusal;
 use arbiter::Locality;
 use pcr::{PcrIndex, Permission};
-use record::Device;
-use refusal::{Refusal, number_of};
-use replay_form::LONGEST;
-use replay_form::fields::{byte_at, put, put_all, put_flag, put_u16};
-use replay_form::tape::least;
+use replay_form::fields::Fields;
+use replay_form::output::Output;
+use replay_record::State;
 
-fn pcr_value(device: Device, args: &[u8], out: &mut [u8]) -> usize {
-    let o = tis::pcr_value(device, PcrIndex(byte_at(args, 0)));
-    let value = o.value;
-    put(out, 0, number_of(o.refusal));
-    put_all(out, 1, &value);
-    21
+pub fn pcr_value(s: &State, mut args: Fields<'_>, out: &mut Output) {
+    let o = tis::pcr_value(s.device, PcrIndex(args.byte()));
+    put_refusal(out, o.refusal);
+    out.put(&o.value);
 }
 
-fn interrupt_line(device: Device, out: &mut [u8]) -> usize {
-    put_flag(out, 0, tis::interrupt_line(device));
-    1
+pub fn interrupt_line(s: &State, out: &mut Output) {
+    out.put_flags([tis::interrupt_line(s.device)]);
 }
 
-fn permission(p: Permission, out: &mut [u8]) -> usize {
-    put(out, 0, number_of(p.refusal));
-    put_flag(out, 1, p.allowed);
-    2
+// Whether a locality may reset a PCR, or extend it, as `may` says.
+pub fn permission<F: FnOnce(PcrIndex, Locality) -> Permission>(
+    may: F,
+    mut args: Fields<'_>,
+    out: &mut Output,
+)
+    requires { F.IsAlwaysCallable may }
+{
+    let p = may(PcrIndex(args.byte()), Locality(args.byte()));
+    put_refusal(out, p.refusal);
+    out.put_flags([p.allowed]);
 }
 
-fn may_reset(args: &[u8], out: &mut [u8]) -> usize {
-    permission(
-        tis::may_reset(PcrIndex(byte_at(args, 0)), Locality(byte_at(args, 1))),
-        out,
-    )
-}
-
-fn may_extend(args: &[u8], out: &mut [u8]) -> usize {
-    permission(
-        tis::may_extend(PcrIndex(byte_at(args, 0)), Locality(byte_at(args, 1))),
-        out,
-    )
-}
-
-fn put_window(out: &mut [u8], refusal: Option<Refusal>, part: &[u8]) -> usize {
-    let n = part.len();
-    put(out, 0, number_of(refusal));
-    put_u16(out, 1, n as u64);
-    put_all(out, 3, part);
-    3 + least(n, LONGEST)
-}
-
-fn window<'a>(device: Device, w: &'a [u8], r: &'a [u8], out: &mut [u8]) -> usize {
-    let o = tis::window(device, w, r);
-    put_window(out, o.refusal, o.bytes)
-}
-
-pub fn question<'a>(
-    kind: u8,
-    device: Device,
-    w: &'a [u8],
-    r: &'a [u8],
-    args: &[u8],
-    out: &mut [u8],
-) -> usize {
-    match kind {
-        b'V' => pcr_value(device, args, out),
-        b'L' => interrupt_line(device, out),
-        b'C' => may_reset(args, out),
-        b'E' => may_extend(args, out),
-        b'M' => window(device, w, r, out),
-        _ => dump(device, w, r, out),
-    }
+pub fn window(s: &State, out: &mut Output) {
+    let o = tis::window(s.device, s.write.as_slice(), s.read.as_slice());
+    put_refusal(out, o.refusal);
+    out.put_length(o.bytes);
+    out.put(o.bytes);
 }

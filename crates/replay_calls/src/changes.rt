@@ -1,54 +1,48 @@
-// The calls that may change the record; a read is `tis::read` as it stands.
-use record::Device;
-use refusal::Refusal;
-use replay_form::fields::{byte_at, take, u32_at, u64_at};
-use tis::ReadOutcome;
+// The calls that may change the record: each leaves the record and puts its outcome.
+use crate::put_refusal;
+use replay_form::fields::Fields;
+use replay_form::output::Output;
+use replay_record::State;
+use tis::Outcome;
 
-// With no byte, where the call is no read.
-fn outcome(refusal: Option<Refusal>, device: Device) -> ReadOutcome {
-    ReadOutcome {
-        refusal,
-        byte: 0,
-        device,
-    }
+// A call that has nothing to say but its refusal.
+fn settle(o: Outcome, s: &mut State, out: &mut Output) {
+    s.device = o.device;
+    put_refusal(out, o.refusal);
 }
 
-fn power_on(w: &mut [u8], r: &mut [u8], args: &[u8]) -> ReadOutcome {
-    let mut identity = [0u8; 5];
-    take(args, 1, &mut identity);
-    let o = tis::power_on(byte_at(args, 0) == 1, identity, w, r);
-    let d = o.device;
-    outcome(o.refusal, d)
+pub fn power_on(s: &mut State, mut args: Fields<'_>, out: &mut Output) {
+    let established = args.flag();
+    let w = s.write.as_mut_slice();
+    let r = s.read.as_mut_slice();
+    settle(tis::power_on(established, args.take(), w, r), s, out);
 }
 
-fn reset(device: Device, w: &mut [u8], r: &mut [u8]) -> ReadOutcome {
-    let o = tis::reset(device, w, r);
-    let d = o.device;
-    outcome(o.refusal, d)
+pub fn reset(s: &mut State, out: &mut Output) {
+    let w = s.write.as_mut_slice();
+    let r = s.read.as_mut_slice();
+    settle(tis::reset(s.device, w, r), s, out);
 }
 
-fn write(device: Device, w: &mut [u8], r: &mut [u8], args: &[u8]) -> ReadOutcome {
-    let o = tis::write(device, w, r, u64_at(args, 0), byte_at(args, 8));
-    let d = o.device;
-    outcome(o.refusal, d)
+pub fn read(s: &mut State, mut args: Fields<'_>, out: &mut Output) {
+    let w = s.write.as_mut_slice();
+    let r = s.read.as_mut_slice();
+    let o = tis::read(s.device, w, r, args.u64());
+    s.device = o.device;
+    put_refusal(out, o.refusal);
+    out.put(&[o.byte]);
 }
 
-fn respond(device: Device, w: &mut [u8], r: &mut [u8], args: &[u8]) -> ReadOutcome {
-    // Run number and length are there, or the call would have been cut short.
-    if args.len() < 6 {
-        return outcome(Some(Refusal::AnswerLength), device);
-    }
-    let o = tis::respond(device, w, r, u32_at(args, 0) as u32, &args[6..]);
-    let d = o.device;
-    outcome(o.refusal, d)
+pub fn write(s: &mut State, mut args: Fields<'_>, out: &mut Output) {
+    let w = s.write.as_mut_slice();
+    let r = s.read.as_mut_slice();
+    settle(tis::write(s.device, w, r, args.u64(), args.byte()), s, out);
 }
 
-pub fn change(kind: u8, device: Device, w: &mut [u8], r: &mut [u8], args: &[u8]) -> ReadOutcome {
-    match kind {
-        b'P' => power_on(w, r, args),
-        b'Z' => reset(device, w, r),
-        b'R' => tis::read(device, w, r, u64_at(args, 0)),
-        b'W' => write(device, w, r, args),
-        _ => respond(device, w, r, args),
-    }
+pub fn respond(s: &mut State, mut args: Fields<'_>, out: &mut Output) {
+    let run = args.u32();
+    let n = usize::from(args.u16());
+    let w = s.write.as_mut_slice();
+    let r = s.read.as_mut_slice();
+    settle(tis::respond(s.device, w, r, run, args.bytes(n)), s, out);
 }

@@ -1,6 +1,13 @@
-// One function for each opcode: it takes the arguments and makes the call.
+// One function for each opcode: it takes the arguments, makes the call and puts the outcome.
 #![tactic(auto)]
+
+use refusal::{Refusal, number_of};
+use replay_form::output::Output;
 
 pub mod asking;
 pub mod changes;
-mod dump;
+
+// Each outcome of a call that may be refused begins so: its number.
+fn put_refusal(out: &mut Output, refusal: Option<Refusal>) {
+    out.put(&[number_of(refusal)]);
+}

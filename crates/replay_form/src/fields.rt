@@ -1,88 +1,69 @@
-// Numbers and bytes at a place of a lent slice, low byte first; a place past its end reads 0 and takes nothing, so no caller shows where it is.
-ghost use Rattle.std.specs.Prelude.{◌<◌, ◌≤◌, ◌^◌};
+// What stands in a call's arguments, read one field after the other, numbers low byte first.
 
-pub fn byte_at(s: &[u8], i: usize) -> u8 {
-    if i < s.len() {
-        return s[i];
+// The bytes that are not yet read. Where too few are left a field reads 0 or no byte, and so does each after it: no caller shows that there
+// are enough.
+#[derive(Clone, Copy)]
+pub struct Fields<'a> {
+    rest: &'a [u8],
+}
+
+impl<'a> Fields<'a> {
+    pub fn new(rest: &'a [u8]) -> Fields<'a> {
+        Fields { rest }
     }
-    0
-}
 
-fn wide(b: u8) -> u64
-    ensures { result < 256 }
-{
-    b as u64
-}
-
-pub fn u16_at(s: &[u8], i: usize) -> u64
-    requires { i < 65536 }
-    ensures { result < 65536 }
-{
-    wide(byte_at(s, i)) + wide(byte_at(s, i + 1)) * 256
-}
-
-pub fn u32_at(s: &[u8], i: usize) -> u64
-    requires { i < 65530 }
-    ensures { result < 4294967296 }
-{
-    u16_at(s, i) + u16_at(s, i + 2) * 65536
-}
-
-pub fn u64_at(s: &[u8], i: usize) -> u64
-    requires { i < 65520 }
-{
-    u32_at(s, i) + u32_at(s, i + 4) * 4294967296
-}
-
-// The bytes from a place on fill dst.
-pub fn take(s: &[u8], at: usize, dst: &mut [u8]) {
-    let n = dst.len();
-    if s.len() < at {
-        return;
+    pub fn take<const N: usize>(&mut self) -> [u8; N] {
+        match self.rest.split_first_chunk() {
+            Some((field, rest)) => {
+                self.rest = rest;
+                *field
+            }
+            None => {
+                self.rest = &[];
+                [0; N]
+            }
+        }
     }
-    if s.len() - at < n {
-        return;
-    }
-    let e = at + n;
-    dst.copy_from_slice(&s[at..e]);
-}
 
-pub fn put(out: &mut [u8], i: usize, b: u8) {
-    if i < out.len() {
-        out[i] = b;
+    // So many bytes.
+    pub fn bytes(&mut self, count: usize) -> &'a [u8] {
+        match self.rest.split_at_checked(count) {
+            Some((field, rest)) => {
+                self.rest = rest;
+                field
+            }
+            None => {
+                self.rest = &[];
+                self.rest
+            }
+        }
     }
-}
 
-pub fn put_flag(out: &mut [u8], i: usize, b: bool) {
-    if b {
-        put(out, i, 1);
-    } else {
-        put(out, i, 0);
+    pub fn byte(&mut self) -> u8 {
+        u8::from_le_bytes(self.take())
     }
-}
 
-pub fn put_u16(out: &mut [u8], i: usize, n: u64)
-    requires { i < 65536 }
-{
-    put(out, i, (n % 256) as u8);
-    put(out, i + 1, (n / 256 % 256) as u8);
-}
-
-pub fn put_u32(out: &mut [u8], i: usize, n: u32)
-    requires { i < 65530 }
-{
-    put_u16(out, i, (n % 65536) as u64);
-    put_u16(out, i + 2, (n / 65536) as u64);
-}
-
-// All of src from a place on.
-pub fn put_all(out: &mut [u8], at: usize, src: &[u8]) {
-    if out.len() < at {
-        return;
+    pub fn u16(&mut self) -> u16 {
+        u16::from_le_bytes(self.take())
     }
-    if out.len() - at < src.len() {
-        return;
+
+    pub fn u32(&mut self) -> u32 {
+        u32::from_le_bytes(self.take())
     }
-    let e = at + src.len();
-    out[at..e].copy_from_slice(src);
+
+    pub fn u64(&mut self) -> u64 {
+        u64::from_le_bytes(self.take())
+    }
+
+    pub fn flag(&mut self) -> bool {
+        self.byte() == 1
+    }
+
+    pub fn flags<const N: usize>(&mut self) -> [bool; N] {
+        let mut flags = [false; N];
+        for flag in flags.iter_mut() {
+            *flag = self.flag();
+        }
+        flags
+    }
 }

@@ -1,19 +1,18 @@
-// The form in which calls come and outcomes go (docs/REPLAY.md): numbers at a place, the length of a call, the buffers, the faults of a stream.
+// The form in which calls come and outcomes go (docs/REPLAY.md): calls and their fields, the buffers, the faults of a stream.
 #![tactic(auto)]
 
+pub mod call;
 pub mod fault;
 pub mod fields;
-pub mod frame;
-pub mod tape;
+pub mod input;
+pub mod opcode;
+pub mod output;
 
 // The greatest length of an answer and of a FIFO: above the greatest C, so that lengths beyond it are played too.
 pub const LONGEST: usize = 9000;
 
-// The bytes of a record's image.
-pub const IMAGE: usize = 603;
+// The bytes of the input's buffer, and of the output's.
+const ROOM: usize = 65536;
 
-// Its flags come first, one byte each.
-pub const FLAGS: usize = 20;
-
-// Where the phase stands in it.
-pub const PHASE: usize = 21;
+// More than any call and any outcome takes.
+const MARGIN: usize = 19000;

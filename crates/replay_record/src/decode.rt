@@ -1,71 +1,86 @@
 // The record of an image.
-ghost use Rattle.std.specs.Prelude.{◌<◌};
-
-use crate::flags::{control_of, flags_at, launch_of};
-use crate::{BANK, FIRST_COUNT, HASHED, IDENTITY, LOCALITY, RUN, SECOND_COUNT, TAIL, WORDS};
+use arbiter::{Arbiter, Locality};
 use pcr::{PCRS, Pcr};
-use record::{Device, Phase};
-use replay_form::PHASE;
-use replay_form::fields::{byte_at, take, u16_at, u32_at};
+use record::{Causes, Control, Device, Interrupts, Launch, Phase};
+use replay_form::fields::Fields;
 use sha1_message::Stream;
 
-fn phase_of(kind: u8, n: u16, k: u16) -> Phase {
-    match kind {
-        0 => Phase::Idle,
-        1 => Phase::Ready,
-        2 => Phase::Reception(n),
-        3 => Phase::Execution(n),
-        _ => Phase::Completion(n, k),
+fn active(held: bool, x: u8) -> Option<Locality> {
+    if held { Some(Locality(x)) } else { None }
+}
+
+fn causes(image: &mut Fields<'_>) -> Causes {
+    Causes {
+        command_ready: image.flag(),
+        locality_change: image.flag(),
+        data_avail: image.flag(),
     }
 }
 
-fn word(image: &[u8], i: usize) -> u32
-    requires { i < 65530 }
-{
-    u32_at(image, i) as u32
+fn interrupts(image: &mut Fields<'_>) -> Interrupts {
+    Interrupts {
+        global: image.flag(),
+        enable: causes(image),
+        status: causes(image),
+    }
 }
 
-fn stream_at(image: &[u8]) -> Stream {
-    let mut tail = [0u8; 64];
-    take(image, TAIL, &mut tail);
+fn phase(image: &mut Fields<'_>) -> Phase {
+    match (image.byte(), image.u16(), image.u16()) {
+        (0, _, _) => Phase::Idle,
+        (1, _, _) => Phase::Ready,
+        (2, n, _) => Phase::Reception(n),
+        (3, n, _) => Phase::Execution(n),
+        (_, n, k) => Phase::Completion(n, k),
+    }
+}
+
+fn stream(image: &mut Fields<'_>) -> Stream {
+    let mut h = [0; 5];
+    for word in h.iter_mut() {
+        *word = image.u32();
+    }
     Stream {
-        h: [
-            word(image, WORDS),
-            word(image, WORDS + 4),
-            word(image, WORDS + 8),
-            word(image, WORDS + 12),
-            word(image, WORDS + 16),
-        ],
-        tail,
-        count: word(image, HASHED),
+        h,
+        tail: image.take(),
+        count: image.u32(),
     }
 }
 
-fn pcr_at(image: &[u8], at: usize) -> Pcr {
-    let mut bytes = [0u8; 20];
-    take(image, at, &mut bytes);
-    Pcr { bytes }
-}
-
-fn bank_at(image: &[u8]) -> [Pcr; PCRS] {
-    let mut bank = [Pcr { bytes: [0u8; 20] }; PCRS];
-    for i in 0..PCRS {
-        bank[i] = pcr_at(image, BANK + 20 * i);
+fn bank(image: &mut Fields<'_>) -> [Pcr; PCRS] {
+    let mut bank = [Pcr { bytes: [0; 20] }; PCRS];
+    for pcr in bank.iter_mut() {
+        pcr.bytes = image.take();
     }
     bank
 }
 
-pub fn device_at(image: &[u8]) -> Device {
-    let f = flags_at(image);
-    let mut identity = [0u8; 5];
-    take(image, IDENTITY, &mut identity);
-    let n = u16_at(image, FIRST_COUNT) as u16;
-    let k = u16_at(image, SECOND_COUNT) as u16;
+pub fn device_from(image: &mut Fields<'_>) -> Device {
+    let held = image.flag();
+    let waiting = image.flags();
+    let seized = image.flags();
+    let interrupts = interrupts(image);
+    let established = image.flag();
+    let sequence = image.flag();
+    let active = active(held, image.byte());
+    let phase = phase(image);
+    let identity = image.take();
+    let control = Control {
+        arbiter: Arbiter {
+            active,
+            waiting,
+            seized,
+        },
+        interrupts,
+        established,
+        run: image.u32(),
+    };
+    let stream = stream(image);
     Device {
-        control: control_of(f, byte_at(image, LOCALITY), word(image, RUN)),
-        phase: phase_of(byte_at(image, PHASE), n, k),
+        control,
+        phase,
         identity,
-        launch: launch_of(f, stream_at(image)),
-        pcrs: bank_at(image),
+        launch: Launch { sequence, stream },
+        pcrs: bank(image),
     }
 }

@@ -1,51 +1,28 @@
-// The record and the lengths of the two FIFOs, as the next call finds them, and one call on them.
+// One call of the list on the record and the FIFOs, by its opcode.
 #![tactic(auto)]
 
-use record::Device;
-use replay_form::IMAGE;
-use replay_form::fields::take;
-use replay_form::frame::length_at;
-use replay_form::tape::least;
-use replay_record::device_at;
+use replay_calls::{asking, changes};
+use replay_form::call::Call;
+use replay_form::fields::Fields;
+use replay_form::opcode::Opcode;
+use replay_form::output::Output;
+use replay_record::State;
 
-mod change;
-mod question;
-mod turn;
-
-pub use turn::play;
-
-#[derive(Clone, Copy)]
-pub struct State {
-    pub device: Device,
-    pub write_length: usize,
-    pub read_length: usize,
-}
-
-// What a call leaves, and how many bytes its outcome has.
-#[derive(Clone, Copy)]
-pub struct Played {
-    pub state: State,
-    pub put: usize,
-}
-
-// Before the first call: as a power-on leaves it, with FIFOs of no byte.
-pub fn start() -> State {
-    State {
-        device: record::fresh_device(false, [0u8; 5], 0),
-        write_length: 0,
-        read_length: 0,
-    }
-}
-
-// Any record, in shape or not, and any bytes in the FIFOs.
-fn load(args: &[u8], w: &mut [u8], r: &mut [u8]) -> State {
-    let n = least(length_at(args, IMAGE), w.len());
-    let m = least(length_at(args, IMAGE + 2), r.len());
-    take(args, IMAGE + 4, &mut w[0..n]);
-    take(args, IMAGE + 4 + n, &mut r[0..m]);
-    State {
-        device: device_at(args),
-        write_length: n,
-        read_length: m,
+// The call is made, and its outcome put.
+pub fn play(s: &mut State, call: Call<'_>, out: &mut Output) {
+    let args = Fields::new(call.arguments);
+    match call.opcode {
+        Opcode::PowerOn => changes::power_on(s, args, out),
+        Opcode::Reset => changes::reset(s, out),
+        Opcode::Read => changes::read(s, args, out),
+        Opcode::Write => changes::write(s, args, out),
+        Opcode::Respond => changes::respond(s, args, out),
+        Opcode::PcrValue => asking::pcr_value(s, args, out),
+        Opcode::InterruptLine => asking::interrupt_line(s, out),
+        Opcode::MayReset => asking::permission(tis::may_reset, args, out),
+        Opcode::MayExtend => asking::permission(tis::may_extend, args, out),
+        Opcode::Window => asking::window(s, out),
+        Opcode::Load => s.load(args),
+        Opcode::Dump => s.dump(out),
     }
 }
