@@ -3,6 +3,7 @@ use mathlib.Core.Path.{◌≡◌, refl, sym, ap, ap₂, subst, ◌∙◌}
 use mathlib.Core.Bool.{Bool, true, false, not, cond, ◌&&◌, and-false, true≢false, false≢true}
 use mathlib.Core.List.{List, [], ◌∷◌, ◌++◌}
 use mathlib.Core.Logic.{◌⊎◌, inl, inr}
+use Rattle.std.specs.Prelude.{Option, Some, None}
 use Prim.Native.Nat.{ℕ, ◌+◌, ◌*◌, ◌-◌, ◌≤◌, ◌<◌}
 use native.Mathlib.Omega.{arith}
 use lib.ListN.{length, get_or, take, drop, replicate, length-append, length-replicate, get_or-append, take-append-drop}
@@ -12,12 +13,11 @@ use borrow.Author.Tests.{eqb-true, leb-true, le-leb, lt-leb, ltb-true, ltb-false
 use Rattle.bits.proofs.TestLaws.{both_true}
 use Rattle.capture.specs.declared.Cycle.{Cycle}
 use Rattle.capture.specs.declared.Word.{Word}
-use Rattle.capture.specs.declared.Word.TheVariants.{Nothing, Budget, BadKind, BadTail, BadHead}
+use Rattle.capture.specs.declared.Word.TheVariants.{Budget, BadKind, BadTail, BadHead}
 use Rattle.capture.specs.Capture.{head, agrees, head_good, body_of, cycle_at, records, before_bad_kind, count_of, word_of, played, count, word, ends, settled}
 use Rattle.capture.specs.Claims.{headed, kind_of, Plays, Headless, CaptureClaim}
 use Rattle.capture.proofs.RecordLaws.{counted, counted_once, record_at, records_whole, played_first, records_extend}
-use Rattle.capture.proofs.ExtentLaws.{no_body, none_played, bad_head_lem}
-use Rattle.capture.proofs.Words.{numbered, no_head_word, words_of}
+use Rattle.capture.proofs.Words.{no_head_word, words_of}
 
 -- ---- a good head
 
@@ -68,11 +68,11 @@ not_headed capture other = by (head_good capture) refl
 
 module _ (limit : ℕ) (capture : List ℕ) (bad : head_good capture ≡ false) where
   headless_of : Headless limit capture
-  unfolding played records before_bad_kind
+  unfolding body_of played count word records before_bad_kind
   headless_of = record {
-    none = rw (← no_body limit capture false (sym bad) refl) (take-nil limit);
-    number = sym (none_played limit capture false (sym bad) refl);
-    bad_head = sym (bad_head_lem limit capture false (sym bad) refl);
+    none = rw bad (take-nil limit);
+    number = rw bad (omega arith);
+    bad_head = rw bad refl;
   }
 
 -- what differs from the head differs whatever comes behind it
@@ -126,13 +126,13 @@ module _ (limit : ℕ) (body more : List ℕ) where
   played_kept : count_of limit (body ++ more) ≡ n → take (count_of limit (body ++ more)) (records (body ++ more)) ≡ take n (records body)
   played_kept e = rw e (records_extend n body more (counted limit body).whole)
 
-  budget_kept : word_of limit body ≡ Budget → (count_of limit (body ++ more) ≡ n) × (word_of limit (body ++ more) ≡ Budget)
+  budget_kept : word_of limit body ≡ Some Budget → (count_of limit (body ++ more) ≡ n) × (word_of limit (body ++ more) ≡ Some Budget)
   budget_kept w =
       let p : (n ≡ limit) × (4 * n < length body) = (words_of limit body).budget.0 w in
       let e : count_of limit (body ++ more) ≡ n = count_kept (inl p.0) in
       (e, (words_of limit (body ++ more)).budget.1 (e ∙ p.0, simp length-append (omega (arith, p.1, e))))
 
-  bad_kind_kept : word_of limit body ≡ BadKind → (count_of limit (body ++ more) ≡ n) × (word_of limit (body ++ more) ≡ BadKind)
+  bad_kind_kept : word_of limit body ≡ Some BadKind → (count_of limit (body ++ more) ≡ n) × (word_of limit (body ++ more) ≡ Some BadKind)
   bad_kind_kept w =
       let p : (n < limit) × (4 * n + 4 ≤ length body) × (3 < kind_of body n) = (words_of limit body).bad_kind.0 w in
       let e : count_of limit (body ++ more) ≡ n = count_kept (inr (p.1, p.2)) in
@@ -145,14 +145,14 @@ abbrev Kept : ℕ → List ℕ → List ℕ → Type 0
 Kept limit more capture = (played limit (capture ++ more) ≡ played limit capture) × (word limit (capture ++ more) ≡ word limit capture)
 
 -- behind a good head
-kept_body : (limit : ℕ) (body more : List ℕ) → (w : Word) → word_of limit body ≡ w → ends w ≡ true → Kept limit more (headed body)
-kept_body limit body more Nothing e q = absurd (false≢true q)
-kept_body limit body more BadTail e q = absurd (false≢true q)
-kept_body limit body more BadHead e q = absurd (no_head_word limit (count_of limit body) _ e)
-kept_body limit body more Budget e q =
+kept_body : (limit : ℕ) (body more : List ℕ) → (w : Option Word) → word_of limit body ≡ w → ends w ≡ true → Kept limit more (headed body)
+kept_body limit body more None e q = absurd (false≢true q)
+kept_body limit body more (Some BadTail) e q = absurd (false≢true q)
+kept_body limit body more (Some BadHead) e q = absurd (no_head_word limit (count_of limit body) _ e)
+kept_body limit body more (Some Budget) e q =
     let k : _ = budget_kept limit body more e in
     (played_is limit (body ++ more) ∙ played_kept limit body more k.0 ∙ sym (played_is limit body), word_is limit (body ++ more) ∙ k.1 ∙ sym e ∙ sym (word_is limit body))
-kept_body limit body more BadKind e q =
+kept_body limit body more (Some BadKind) e q =
     let k : _ = bad_kind_kept limit body more e in
     (played_is limit (body ++ more) ∙ played_kept limit body more k.0 ∙ sym (played_is limit body), word_is limit (body ++ more) ∙ k.1 ∙ sym e ∙ sym (word_is limit body))
 
@@ -190,11 +190,11 @@ settles_of limit capture more = by (ltb (length capture) 5) refl
 abbrev Open : ℕ → List ℕ → Type 0
 Open limit capture = (more : List ℕ) × (word limit (capture ++ more) ≡ word limit capture → ⊥)
 
-open_body : (limit : ℕ) (body : List ℕ) → (w : Word) → word_of limit body ≡ w → ends w ≡ false → Open limit (headed body)
-open_body limit body Budget e q = absurd (true≢false q)
-open_body limit body BadKind e q = absurd (true≢false q)
-open_body limit body BadHead e q = absurd (true≢false q)
-open_body limit body Nothing e q = (
+open_body : (limit : ℕ) (body : List ℕ) → (w : Option Word) → word_of limit body ≡ w → ends w ≡ false → Open limit (headed body)
+open_body limit body (Some Budget) e q = absurd (true≢false q)
+open_body limit body (Some BadKind) e q = absurd (true≢false q)
+open_body limit body (Some BadHead) e q = absurd (true≢false q)
+open_body limit body None e q = (
   0 ∷ [],
   λ z.
       let p : length body ≡ 4 * count_of limit body = (words_of limit body).nothing.0 e in
@@ -202,7 +202,7 @@ open_body limit body Nothing e q = (
       = (words_of limit (body ++ (0 ∷ []))).nothing.0 (sym (word_is limit (body ++ (0 ∷ []))) ∙ z ∙ word_is limit body ∙ e) in
       omega (arith, length-append body (0 ∷ []), p, r),
 )
-open_body limit body BadTail e q =
+open_body limit body (Some BadTail) e q =
     let n : ℕ = count_of limit body in
     let p : (n < limit) × (4 * n < length body) × (length body < 4 * n + 4) = (words_of limit body).bad_tail.0 e in
     let more : List ℕ = replicate (4 * n + 4 - length body) 0 in (
@@ -222,9 +222,9 @@ unfolding head_good
 open_short limit capture l e =
     let front : capture ≡ take (length capture) head = sym (take_all 5 capture (omega arith)) ∙ agrees_take head capture e in
     let whole : capture ++ drop (length capture) head ≡ headed [] = ap (λ (c : List ℕ). c ++ drop (length capture) head) front ∙ take-append-drop (length capture) head in
-    let was : word limit capture ≡ BadHead = (headless_of limit capture (rw (lt-leb 5 (length capture) l))).bad_head in
-    let is : word limit (headed []) ≡ Nothing = word_is limit [] ∙ (words_of limit []).nothing.1 (nothing_counted limit) in
-    (drop (length capture) head, λ z. omega (arith, ap numbered (sym is ∙ ap (word limit) (sym whole) ∙ z ∙ was)))
+    let was : word limit capture ≡ Some BadHead = (headless_of limit capture (rw (lt-leb 5 (length capture) l))).bad_head in
+    let is : word limit (headed []) ≡ None = word_is limit [] ∙ (words_of limit []).nothing.1 (nothing_counted limit) in
+    (drop (length capture) head, λ z. cc (sym is ∙ ap (word limit) (sym whole) ∙ z ∙ was))
 
 open_long : (limit : ℕ) (capture : List ℕ) → (t : Bool) → head_good capture ≡ t → ends (word limit capture) ≡ false → Open limit capture
 open_long limit capture false e q = absurd (true≢false (ap ends (sym (headless_of limit capture e).bad_head) ∙ q))

@@ -1,41 +1,42 @@
--- A capture's head, byte by byte: i bytes of it were compared, and the rest decides. Assumes nothing.
+-- A capture's head against the five bytes, whole or as far as it goes. Assumes nothing.
 use mathlib.Core.Path.{◌≡◌, refl, sym, ◌∙◌}
-use mathlib.Core.Bool.{Bool, true, false, ◌&&◌}
+use mathlib.Core.Bool.{Bool, true, false, ◌&&◌, and-false}
 use mathlib.Core.List.{List, [], ◌∷◌}
-use Prim.Native.Nat.{ℕ, suc, ◌+◌, ◌≤◌, ◌<◌}
-use native.Mathlib.Numerals.{add-one}
-use lib.ListN.{length, get_or, drop, drop_of_length-le}
-use lib.Seq.{drop-cons}
-use lib.Dec.{eqb}
-use borrow.Author.Tests.{eq-eqb, ne_eqb, le-leb, lt-leb}
-use Rattle.capture.specs.Capture.{head, agrees, head_good}
+use Prim.Native.Nat.{ℕ, suc, ◌≤◌}
+use Prim.Native.Nat.compare
+use native.Mathlib.Omega.{arith}
+use lib.ListN.{length, take, drop}
+use lib.Dec.{eqb, leb}
+use borrow.Author.Tests.{le-leb, lt-leb}
+use Rattle.std.specs.Cmp.Lexicographic.{pointwise}
+use Rattle.capture.specs.Capture.{head, agrees, head_good, body_of}
 
-agrees_nothing : (h : List ℕ) → agrees h [] ≡ true
-agrees_nothing [] = refl
-agrees_nothing (x ∷ h) = refl
+-- whole
+begins : (h bytes : List ℕ) → pointwise eqb (take (length h) bytes) h ≡ leb (length h) (length bytes) && agrees h bytes
+begins [] bytes = rw (le-leb 0 (length bytes) (omega arith)) refl
+begins (x ∷ h) [] = rw (lt-leb (length (x ∷ h)) 0 (omega arith)) refl
+begins (x ∷ h) (b ∷ bytes) = by (eqb b x) (pointwise eqb (take (length h) bytes) h) (begins h bytes)
+  where
+    by : (t p : Bool) → p ≡ leb (length h) (length bytes) && agrees h bytes → t && p ≡ leb (suc (length h)) (suc (length bytes)) && (t && agrees h bytes)
+    by true p e = rw (compare.suc-suc (length h) (length bytes)) e
+    by false p e = sym (and-false (leb (suc (length h)) (suc (length bytes))))
 
-module _ (h bytes : List ℕ) (i : ℕ) (so_far : agrees (drop i h) (drop i bytes) ≡ agrees h bytes) where
-  pub bytes_end : length bytes ≤ i → true ≡ agrees h bytes
-  bytes_end l = sym (rw (drop_of_length-le bytes l) (agrees_nothing (drop i h))) ∙ so_far
-
-  pub head_ends : length h ≤ i → true ≡ agrees h bytes
-  head_ends l = sym (rw (drop_of_length-le h l)) ∙ so_far
-
-  module _ (within : i < length h) (there : i < length bytes) where
-    next : agrees (drop i h) (drop i bytes) ≡ eqb (get_or bytes i 0) (get_or h i 0) && agrees (drop (suc i) h) (drop (suc i) bytes)
-    next = rw (drop-cons h i 0 within, drop-cons bytes i 0 there)
-
-    pub byte_differs : (get_or bytes i 0 ≡ get_or h i 0 → ⊥) → false ≡ agrees h bytes
-    byte_differs e = sym (next ∙ rw (ne_eqb (get_or bytes i 0) (get_or h i 0) e)) ∙ so_far
-
-    pub byte_agrees : get_or bytes i 0 ≡ get_or h i 0 → agrees (drop (i + 1) h) (drop (i + 1) bytes) ≡ agrees h bytes
-    byte_agrees e = rw add-one (sym (next ∙ rw (eq-eqb (get_or bytes i 0) (get_or h i 0) e)) ∙ so_far)
+-- as far as it goes
+pub goes : (h bytes : List ℕ) → length bytes ≤ length h → pointwise eqb bytes (take (length bytes) h) ≡ agrees h bytes
+goes [] [] l = refl
+goes (x ∷ h) [] l = refl
+goes [] (b ∷ bytes) l = absurd (omega arith)
+goes (x ∷ h) (b ∷ bytes) l = rw (goes h bytes (omega arith)) refl
 
 module _ (capture : List ℕ) where
-  pub short_head : length capture < 5 → false ≡ head_good capture
+  pub good_is : (t : Bool) → pointwise eqb (take 5 capture) head ≡ t → head_good capture ≡ t
   unfolding head_good
-  short_head l = rw (lt-leb 5 (length capture) l)
+  good_is t e = sym (begins head capture) ∙ e
 
-  pub long_head : 5 ≤ length capture → (t : Bool) → t ≡ agrees head capture → t ≡ head_good capture
-  unfolding head_good
-  long_head l t e = rw (le-leb 5 (length capture) l) e
+  pub no_body : pointwise eqb (take 5 capture) head ≡ false → [] ≡ body_of capture
+  unfolding body_of
+  no_body e = rw (good_is false e)
+
+  pub body_there : pointwise eqb (take 5 capture) head ≡ true → drop 5 capture ≡ body_of capture
+  unfolding body_of
+  body_there e = rw (good_is true e)

@@ -1,5 +1,6 @@
 pub mod HeadLaws
+pub mod Chunks
 pub mod RecordLaws
-pub mod ExtentLaws
 pub mod Words
+pub mod ExtentLaws
 pub mod CaptureHolds

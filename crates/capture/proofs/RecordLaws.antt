@@ -1,17 +1,19 @@
 -- The records behind the head: how many are played, and which. Assumes nothing.
-use mathlib.Core.Path.{◌≡◌, refl, sym, ap, ◌∙◌}
+use mathlib.Core.Path.{◌≡◌, refl, ap, ◌∙◌}
 use mathlib.Core.Bool.{Bool, true, false, cond}
-use mathlib.Core.List.{List, [], ◌∷◌, ◌++◌}
+use mathlib.Core.List.{List, [], ◌∷◌, ◌++◌, map}
+use Rattle.std.specs.List.{prefix_len}
 use mathlib.Core.Logic.{◌⊎◌, inl, inr}
-use Prim.Native.Nat.{ℕ, zero, suc, ◌+◌, ◌*◌, ◌/◌, ◌≤◌, ◌<◌, min}
+use Prim.Native.Nat.{ℕ, zero, suc, ◌+◌, ◌*◌, ◌≤◌, ◌<◌, min}
 use native.Mathlib.Omega.{arith, min_cases}
 use lib.ListN.{length, get_or, take}
 use lib.Seq.{take-take, take_all}
 use lib.Dec.{leb}
 use borrow.Author.Tests.{le-leb, lt-leb, leb-true, leb-false}
 use Rattle.capture.specs.declared.Cycle.{Cycle}
-use Rattle.capture.specs.Capture.{cycle_at, records, before_bad_kind, sound, count_of}
+use Rattle.capture.specs.Capture.{cycle_at, records, before_bad_kind, sound, known, count_of}
 use Rattle.capture.specs.Claims.{kind_of, Counted}
+use Rattle.capture.proofs.Chunks.{Cuts}
 
 -- a place in a record is four on in the list with one record more in front
 four_on : (n j : ℕ) → 4 * suc n + j ≡ suc (suc (suc (suc (4 * n + j))))
@@ -125,17 +127,6 @@ counted_once limit body n c = by c.stops
     by (inr (inl e)) = omega (arith, more, bytes_bound body, c.within)
     by (inr (inr e)) = omega (arith, more, kind_bound n body e, c.within)
 
--- n of at most so many records were looked at and are of known kinds: a bad kind comes, or no more records
-module _ (limit : ℕ) (body : List ℕ) (n most : ℕ) (at_most : most ≡ min limit (length body / 4)) (known : (i : ℕ) → i < n → kind_of body i ≤ 3) where
-  pub bad_kind_comes : n < most → 3 < kind_of body n → n ≡ count_of limit body
-  bad_kind_comes l b = sym (counted_once limit body n (record { within = omega arith; whole = omega arith; known = known; stops = inr (inr b) }))
-
-  pub no_more_records : n ≤ most → most ≤ n → n ≡ count_of limit body
-  no_more_records l m = sym (counted_once limit body n (record { within = omega arith; whole = omega arith; known = known; stops = ends }))
-    where
-      ends : (n ≡ limit) ⊎ ((length body < 4 * n + 4) ⊎ (3 < kind_of body n))
-      ends = min_cases limit (length body / 4) _ (λ a q. inl (omega arith)) (λ a q. inr (inl (omega arith)))
-
 -- ---- which they are
 
 -- record i is made of the four bytes at its place
@@ -200,3 +191,55 @@ records_whole (suc n) (k ∷ h ∷ l ∷ []) w = absurd (omega arith)
 records_whole (suc n) (k ∷ h ∷ l ∷ v ∷ rest) w =
     let i : n ≤ length (records rest) = records_whole n rest (omega arith) in
     omega arith
+
+-- ---- as chunks of four bytes
+
+unfoldable pub fours : List ℕ → List (List ℕ)
+fours [] = []
+fours (k ∷ []) = []
+fours (k ∷ h ∷ []) = []
+fours (k ∷ h ∷ l ∷ []) = []
+fours (k ∷ h ∷ l ∷ v ∷ rest) = (k ∷ h ∷ l ∷ v ∷ []) ∷ fours rest
+
+pub cuts_fours : Cuts 4 fours
+unfolding fours
+cuts_fours = record { short = short; front = front }
+  where
+    short : (l : List ℕ) → length l < 4 → length (fours l) ≡ 0
+    short [] s = refl
+    short (k ∷ []) s = refl
+    short (k ∷ h ∷ []) s = refl
+    short (k ∷ h ∷ l ∷ []) s = refl
+    short (k ∷ h ∷ l ∷ v ∷ rest) s = absurd (omega arith)
+
+    front : (x l : List ℕ) → length x ≡ 4 → fours (x ++ l) ≡ x ∷ fours l
+    front (k ∷ h ∷ l ∷ v ∷ []) rest e = refl
+    front [] rest e = absurd (omega arith)
+    front (k ∷ []) rest e = absurd (omega arith)
+    front (k ∷ h ∷ []) rest e = absurd (omega arith)
+    front (k ∷ h ∷ l ∷ []) rest e = absurd (omega arith)
+    front (k ∷ h ∷ l ∷ v ∷ y ∷ x) rest e = absurd (omega arith)
+
+-- a record's bytes make the record
+pub records_are : (body : List ℕ) → map (λ (r : List ℕ). cycle_at r 0) (fours body) ≡ records body
+unfolding fours records cycle_at
+records_are [] = refl
+records_are (k ∷ []) = refl
+records_are (k ∷ h ∷ []) = refl
+records_are (k ∷ h ∷ l ∷ []) = refl
+records_are (k ∷ h ∷ l ∷ v ∷ rest) = ap (λ (cs : List Cycle). record { kind = k; offset = 256 * h + l; byte = v } ∷ cs) (records_are rest)
+
+-- those of known kinds, up to the first other one, within a limit
+pub known_first : (limit : ℕ) (body : List ℕ) → prefix_len known (take limit (fours body)) ≡ count_of limit body
+unfolding fours records before_bad_kind
+known_first zero body = omega arith
+known_first (suc n) [] = omega arith
+known_first (suc n) (k ∷ []) = omega arith
+known_first (suc n) (k ∷ h ∷ []) = omega arith
+known_first (suc n) (k ∷ h ∷ l ∷ []) = omega arith
+known_first (suc n) (k ∷ h ∷ l ∷ v ∷ rest) = by (leb k 3) (known_first n rest)
+  where
+    by : (t : Bool) → prefix_len known (take n (fours rest)) ≡ min n (length (sound rest))
+        → cond t (1 + prefix_len known (take n (fours rest))) 0 ≡ min (suc n) (length (cond t (record { kind = k; offset = 256 * h + l; byte = v } ∷ sound rest) []))
+    by true e = omega arith
+    by false e = omega arith

@@ -1,6 +1,7 @@
 -- Which word there is for what n records leave, as W1 says it. Assumes nothing.
-use mathlib.Core.Path.{◌≡◌, refl, sym, ap, ◌∙◌}
+use mathlib.Core.Path.{◌≡◌, refl}
 use mathlib.Core.Bool.{Bool, true, false}
+use Rattle.std.specs.Prelude.{Some, None}
 use mathlib.Core.List.{List}
 use mathlib.Core.Logic.{◌⊎◌, inl, inr}
 use Prim.Native.Nat.{ℕ, ◌+◌, ◌*◌, ◌-◌, ◌≤◌, ◌<◌}
@@ -8,38 +9,29 @@ use native.Mathlib.Omega.{arith}
 use lib.ListN.{length, length-drop}
 use lib.Dec.{eqb, ltb}
 use borrow.Author.Tests.{eqb-true, eqb-false, ltb-true, ltb-false, eq-eqb, ne_eqb, lt-ltb, le-ltb}
-use Rattle.capture.specs.declared.Word.{Word}
-use Rattle.capture.specs.declared.Word.TheVariants.{Nothing, Budget, BadKind, BadTail, BadHead}
+use Rattle.capture.specs.declared.Word.TheVariants.{Budget, BadKind, BadTail, BadHead}
 use Rattle.capture.specs.Capture.{word_for, word_of, count_of}
 use Rattle.capture.specs.Claims.{kind_of, Counted, Words}
 use Rattle.capture.proofs.RecordLaws.{counted}
 
--- a number for each word, to tell them apart
-abbrev pub numbered : Word → ℕ
-numbered Nothing = 0
-numbered Budget = 1
-numbered BadKind = 2
-numbered BadTail = 3
-numbered BadHead = 4
-
 -- ---- the word by the tests that lead to it
 
 module _ (limit n left : ℕ) where
-  none_left : left ≡ 0 → word_for limit n left ≡ Nothing
+  none_left : left ≡ 0 → word_for limit n left ≡ None
   unfolding word_for
   none_left z = rw (eq-eqb left 0 z)
 
   module _ (some : left ≡ 0 → ⊥) where
-    limit_reached : n ≡ limit → word_for limit n left ≡ Budget
+    limit_reached : n ≡ limit → word_for limit n left ≡ Some Budget
     unfolding word_for
     limit_reached m = rw (ne_eqb left 0 some, eq-eqb n limit m)
 
     module _ (below : n ≡ limit → ⊥) where
-      no_record : left < 4 → word_for limit n left ≡ BadTail
+      no_record : left < 4 → word_for limit n left ≡ Some BadTail
       unfolding word_for
       no_record s = rw (ne_eqb left 0 some, ne_eqb n limit below, lt-ltb left 4 s)
 
-      a_record : 4 ≤ left → word_for limit n left ≡ BadKind
+      a_record : 4 ≤ left → word_for limit n left ≡ Some BadKind
       unfolding word_for
       a_record s = rw (ne_eqb left 0 some, ne_eqb n limit below, le-ltb left 4 s)
 
@@ -60,14 +52,14 @@ word_case limit n left = by (eqb left 0) (eqb n limit) (ltb left 4) refl refl re
     by false false false e f g = bad_kind (eqb-false left 0 e) (eqb-false n limit f) (ltb-false left 4 g)
 
 -- no word of a body is that of a bad head
-pub no_head_word : (limit n left : ℕ) → word_for limit n left ≡ BadHead → ⊥
+pub no_head_word : (limit n left : ℕ) → word_for limit n left ≡ Some BadHead → ⊥
 no_head_word limit n left q = by (word_case limit n left)
   where
     by : WordCase limit n left → ⊥
-    by (nothing z) = omega (arith, ap numbered (sym (none_left limit n left z) ∙ q))
-    by (budget z m) = omega (arith, ap numbered (sym (limit_reached limit n left z m) ∙ q))
-    by (bad_tail z m s) = omega (arith, ap numbered (sym (no_record limit n left z m s) ∙ q))
-    by (bad_kind z m s) = omega (arith, ap numbered (sym (a_record limit n left z m s) ∙ q))
+    by (nothing z) = cc (none_left limit n left z)
+    by (budget z m) = cc (limit_reached limit n left z m)
+    by (bad_tail z m s) = cc (no_record limit n left z m s)
+    by (bad_kind z m s) = cc (a_record limit n left z m s)
 
 -- ---- what each word means
 
@@ -88,34 +80,34 @@ module _ (limit : ℕ) (body : List ℕ) (n : ℕ) (c : Counted limit body n) wh
       let w : 4 * n ≤ length body = c.whole in
       rw (none_left limit n left z) (record {
         nothing = (λ q. omega arith, λ p. refl);
-        budget = (λ q. absurd (omega (arith, ap numbered q)), λ p. absurd (omega (arith, p.1)));
-        bad_tail = (λ q. absurd (omega (arith, ap numbered q)), λ p. absurd (omega (arith, p.1)));
-        bad_kind = (λ q. absurd (omega (arith, ap numbered q)), λ p. absurd (omega (arith, p.1)));
+        budget = (λ q. cc, λ p. absurd (omega (arith, p.1)));
+        bad_tail = (λ q. cc, λ p. absurd (omega (arith, p.1)));
+        bad_kind = (λ q. cc, λ p. absurd (omega (arith, p.1)));
       })
   words_for (budget z m) =
       let w : 4 * n ≤ length body = c.whole in
       rw (limit_reached limit n left z m) (record {
-        nothing = (λ q. absurd (omega (arith, ap numbered q)), λ p. absurd (z (omega arith)));
+        nothing = (λ q. cc, λ p. absurd (z (omega arith)));
         budget = (λ q. (m, omega arith), λ p. refl);
-        bad_tail = (λ q. absurd (omega (arith, ap numbered q)), λ p. absurd (omega (arith, p.0)));
-        bad_kind = (λ q. absurd (omega (arith, ap numbered q)), λ p. absurd (omega (arith, p.0)));
+        bad_tail = (λ q. cc, λ p. absurd (omega (arith, p.0)));
+        bad_kind = (λ q. cc, λ p. absurd (omega (arith, p.0)));
       })
   words_for (bad_tail z m s) =
       let w : 4 * n ≤ length body = c.whole in
       let l : n ≤ limit = c.within in
       rw (no_record limit n left z m s) (record {
-        nothing = (λ q. absurd (omega (arith, ap numbered q)), λ p. absurd (z (omega arith)));
-        budget = (λ q. absurd (omega (arith, ap numbered q)), λ p. absurd (m p.0));
+        nothing = (λ q. cc, λ p. absurd (z (omega arith)));
+        budget = (λ q. cc, λ p. absurd (m p.0));
         bad_tail = (λ q. (omega arith, omega arith, omega arith), λ p. refl);
-        bad_kind = (λ q. absurd (omega (arith, ap numbered q)), λ p. absurd (omega (arith, p.1)));
+        bad_kind = (λ q. cc, λ p. absurd (omega (arith, p.1)));
       })
   words_for (bad_kind z m s) =
       let w : 4 * n ≤ length body = c.whole in
       let l : n < limit = omega (arith, c.within) in
       rw (a_record limit n left z m s) (record {
-        nothing = (λ q. absurd (omega (arith, ap numbered q)), λ p. absurd (z (omega arith)));
-        budget = (λ q. absurd (omega (arith, ap numbered q)), λ p. absurd (m p.0));
-        bad_tail = (λ q. absurd (omega (arith, ap numbered q)), λ p. absurd (omega (arith, p.2)));
+        nothing = (λ q. cc, λ p. absurd (z (omega arith)));
+        budget = (λ q. cc, λ p. absurd (m p.0));
+        bad_tail = (λ q. cc, λ p. absurd (omega (arith, p.2)));
         bad_kind = (λ q. (l, omega arith, next_kind l (omega arith)), λ p. refl);
       })
 

@@ -1,9 +1,9 @@
 -- A capture (document 02, W1): its head, its records, how many of them are played within a limit, and the word for what is left. Assumes
 -- nothing.
-use Rattle.std.specs.Prelude.{ℕ, ◌+◌, ◌*◌, min, Bool, true, false, cond, ◌&&◌, not, List, [], ◌∷◌, length, get_or, take, drop, eqb, leb, ltb}
+use Rattle.std.specs.Prelude.{ℕ, ◌+◌, ◌*◌, min, Option, Some, None, Bool, true, false, cond, ◌&&◌, not, List, [], ◌∷◌, length, get_or, take, drop, eqb, leb, ltb}
 use Rattle.capture.specs.declared.Cycle.{Cycle}
 use Rattle.capture.specs.declared.Word.{Word}
-use Rattle.capture.specs.declared.Word.TheVariants.{Nothing, Budget, BadKind, BadTail, BadHead}
+use Rattle.capture.specs.declared.Word.TheVariants.{Budget, BadKind, BadTail, BadHead}
 
 -- ---- the head
 
@@ -51,6 +51,11 @@ records (k ∷ h ∷ l ∷ v ∷ rest) = record { kind = k; offset = 256 * h + l
 abbrev pub last_kind : ℕ
 last_kind = 3
 
+-- a record's bytes, of which the first is its kind
+abbrev pub known : List ℕ → Bool
+known [] = false
+known (k ∷ rest) = leb k last_kind
+
 unfoldable pub before_bad_kind : List Cycle → List Cycle
 before_bad_kind [] = []
 before_bad_kind (c ∷ cs) = cond (leb c.kind last_kind) (c ∷ before_bad_kind cs) []
@@ -74,31 +79,31 @@ count limit capture = count_of limit (body_of capture)
 
 -- n records were played and so many bytes are left: "prints 'budget' if bytes remain, 'bad kind' for a kind above 3, 'bad tail' for one to
 -- three bytes over, whatever they hold"; "With bytes left after 10,000 records, 'budget' stands in place of the other two words."
-unfoldable pub word_for : ℕ → ℕ → ℕ → Word
+unfoldable pub word_for : ℕ → ℕ → ℕ → Option Word
 word_for limit n left =
-    cond (eqb left 0) Nothing
-    (cond (eqb n limit) Budget
-    (cond (ltb left record_bytes) BadTail BadKind))
+    cond (eqb left 0) None
+    (cond (eqb n limit) (Some Budget)
+    (cond (ltb left record_bytes) (Some BadTail) (Some BadKind)))
 
 -- the bytes that n records leave
 abbrev pub left_of : ℕ → List ℕ → ℕ
 left_of n body = length (drop (record_bytes * n) body)
 
-abbrev pub word_of : ℕ → List ℕ → Word
+abbrev pub word_of : ℕ → List ℕ → Option Word
 word_of limit body = word_for limit (count_of limit body) (left_of (count_of limit body) body)
 
 -- "A short head, wrong mark or version prints 'bad head' alone."
-unfoldable pub word : ℕ → List ℕ → Word
-word limit capture = cond (head_good capture) (word_of limit (body_of capture)) BadHead
+unfoldable pub word : ℕ → List ℕ → Option Word
+word limit capture = cond (head_good capture) (word_of limit (body_of capture)) (Some BadHead)
 
 -- ---- of the bytes that have come so far
 
-abbrev pub ends : Word → Bool
-ends Nothing = false
-ends Budget = true
-ends BadKind = true
-ends BadTail = false
-ends BadHead = true
+abbrev pub ends : Option Word → Bool
+ends None = false
+ends (Some Budget) = true
+ends (Some BadKind) = true
+ends (Some BadTail) = false
+ends (Some BadHead) = true
 
 -- do they decide what is played and which word there is, whatever comes behind them
 unfoldable pub settled : ℕ → List ℕ → Bool

@@ -1,9 +1,9 @@
 -- What W1 says of every capture and every limit, claimed of the definitions with the paper's numerals: how many records are played, which
 -- bytes they are, which word there is, and when reading on changes nothing. Assumes nothing.
-use Rattle.std.specs.Prelude.{ℕ, ◌+◌, ◌*◌, ◌≤◌, ◌<◌, ◌≡◌, true, false, List, [], ◌∷◌, ◌++◌, ◌⊎◌, ◌↔◌, length, get_or}
+use Rattle.std.specs.Prelude.{ℕ, ◌+◌, ◌*◌, ◌≤◌, ◌<◌, ◌≡◌, true, false, List, [], ◌∷◌, ◌++◌, ◌⊎◌, ◌↔◌, Option, Some, None, length, get_or}
 use Rattle.capture.specs.declared.Cycle.{Cycle}
 use Rattle.capture.specs.declared.Word.{Word}
-use Rattle.capture.specs.declared.Word.TheVariants.{Nothing, Budget, BadKind, BadTail, BadHead}
+use Rattle.capture.specs.declared.Word.TheVariants.{Budget, BadKind, BadTail, BadHead}
 use Rattle.capture.specs.Capture.{played, count, word, settled}
 
 -- a capture with a good head: 4C 4F 43 00 01, then the body
@@ -35,17 +35,17 @@ pub record Plays (body : List ℕ) (n : ℕ) (cs : List Cycle) : Type 0 where
 
 -- after n records: no word exactly if nothing is left; "budget" exactly if the limit is reached and bytes are left; "bad tail" exactly if it is not
 -- and one to three are, whatever they hold; "bad kind" exactly if it is not and the next whole record has a kind above 3
-pub record Words (limit : ℕ) (body : List ℕ) (n : ℕ) (w : Word) : Type 0 where
-  pub nothing : (w ≡ Nothing) ↔ (length body ≡ 4 * n)
-  pub budget : (w ≡ Budget) ↔ ((n ≡ limit) × (4 * n < length body))
-  pub bad_tail : (w ≡ BadTail) ↔ ((n < limit) × (4 * n < length body) × (length body < 4 * n + 4))
-  pub bad_kind : (w ≡ BadKind) ↔ ((n < limit) × (4 * n + 4 ≤ length body) × (3 < kind_of body n))
+pub record Words (limit : ℕ) (body : List ℕ) (n : ℕ) (w : Option Word) : Type 0 where
+  pub nothing : (w ≡ None) ↔ (length body ≡ 4 * n)
+  pub budget : (w ≡ Some Budget) ↔ ((n ≡ limit) × (4 * n < length body))
+  pub bad_tail : (w ≡ Some BadTail) ↔ ((n < limit) × (4 * n < length body) × (length body < 4 * n + 4))
+  pub bad_kind : (w ≡ Some BadKind) ↔ ((n < limit) × (4 * n + 4 ≤ length body) × (3 < kind_of body n))
 
 -- "A short head, wrong mark or version prints 'bad head' alone."
 pub record Headless (limit : ℕ) (capture : List ℕ) : Type 0 where
   pub none : played limit capture ≡ []
   pub number : count limit capture ≡ 0
-  pub bad_head : word limit capture ≡ BadHead
+  pub bad_head : word limit capture ≡ Some BadHead
 
 pub record CaptureClaim : Type 0 where
   pub counted : (limit : ℕ) (body : List ℕ) → Counted limit body (count limit (headed body))

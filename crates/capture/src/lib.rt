@@ -7,14 +7,14 @@ pub mod records;
 
 pub use extent::{Scanned, scan, settled};
 pub use head::body;
-pub use records::cycle_at;
+pub use records::cycle_of;
 
 // The bytes of the head and of a record.
 pub const HEAD_BYTES: usize = 5;
 
 pub const RECORD_BYTES: usize = 4;
 
-// A record.
+// A record. Its kind stays a number, since a record of a bad kind is one too (`cycle_of`); none of those is played (`count`).
 #[derive(Clone, Copy)]
 pub struct Cycle {
     pub kind: u8,
@@ -22,10 +22,9 @@ pub struct Cycle {
     pub byte: u8,
 }
 
-// What is printed for what is not played: no word, or one of four.
+// What is printed for what is not played, if there is a word.
 #[derive(Clone, Copy)]
 pub enum Word {
-    Nothing,
     Budget,
     BadKind,
     BadTail,

@@ -1,6 +1,7 @@
 -- A record of a capture as a call of the front (document 02, W1), and the outcome that it gives. Assumes nothing.
 use Rattle.std.specs.Prelude.{ℕ, ◌≡◌, cond, List, [], ◌∷◌, eqb}
 use Rattle.refusal.specs.Refusal.{number_of}
+use Rattle.call_outcome.specs.declared.Outcome.{Outcome}
 use Rattle.call_outcome.specs.declared.ReadOutcome.{ReadOutcome}
 use Rattle.capture.specs.declared.Cycle.{Cycle}
 use Rattle.claims.specs.Calls.{Call, reset, read, write, respond, Value, nothing, byte, bytes, flag, Called}
@@ -24,6 +25,10 @@ shown_byte nothing = 0xff
 shown_byte (byte v) = v
 shown_byte (bytes vs) = 0xff
 shown_byte (flag b) = 0xff
+
+-- the outcome of a call that is no read
+abbrev pub without_byte : Outcome → ReadOutcome
+without_byte o = record { refusal = o.refusal; byte = 0xff; device = o.device }
 
 -- an outcome, with w and r in the FIFOs afterwards, is what a call gives
 pub record Gives (o : ReadOutcome) (w r : List ℕ) (k : Called) : Type 0 where

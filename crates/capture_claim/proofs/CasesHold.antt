@@ -10,7 +10,8 @@ use lib.Seq.{take_all}
 use Rattle.text.specs.Text.{decimal, hex_byte}
 use Rattle.capture.specs.declared.Cycle.{Cycle}
 use Rattle.capture.specs.declared.Word.{Word}
-use Rattle.capture.specs.declared.Word.TheVariants.{Nothing, Budget, BadKind}
+use Rattle.capture.specs.declared.Word.TheVariants.{Budget, BadKind}
+use Rattle.std.specs.Prelude.{Option, Some, None}
 use Rattle.capture.specs.Capture.{head_good, body_of, records, before_bad_kind, count_of, played, count, word_for, word}
 use Rattle.capture.specs.Claims.{headed}
 use Rattle.capture.proofs.RecordLaws.{counted_once, records_extend}
@@ -45,7 +46,7 @@ kind_count : count cycle_limit kinds ≡ 33
 unfolding playing
 kind_count = refl
 
-kind_word : word cycle_limit kinds ≡ BadKind
+kind_word : word cycle_limit kinds ≡ Some BadKind
 unfolding playing
 kind_word = refl
 
@@ -127,15 +128,15 @@ module _ (n : ℕ) (rest : List ℕ) where
   unfolding calls_of
   all_calls = ap (map call_of) all_played ∙ calls_zero n
 
-  printed : (w : Word) → word n (headed body) ≡ w → text_of (shown (heard start (calls_of n (headed body)))) (word n (headed body)) (count n (headed body)) ≡ times n free_line ++ (word_text w ++ last_text w n)
+  printed : (w : Option Word) → word n (headed body) ≡ w → text_of (shown (heard start (calls_of n (headed body)))) (word n (headed body)) (count n (headed body)) ≡ times n free_line ++ (word_text w ++ last_text w n)
   unfolding text_of
   printed w e = rw (all_calls, e, count_is n body, all_counted, lines_zero n) refl
 
 module _ (n : ℕ) where
-  none_over : word n (headed (body n [])) ≡ Nothing
+  none_over : word n (headed (body n [])) ≡ None
   none_over = word_is n (body n []) ∙ (words_of n (body n [])).nothing.1 (omega (arith, body_bytes n [], all_counted n []))
 
-  some_over : (b : ℕ) (more : List ℕ) → word n (headed (body n (b ∷ more))) ≡ Budget
+  some_over : (b : ℕ) (more : List ℕ) → word n (headed (body n (b ∷ more))) ≡ Some Budget
   some_over b more = word_is n (body n (b ∷ more)) ∙ (words_of n (body n (b ∷ more))).budget.1 (all_counted n (b ∷ more), omega (arith, body_bytes n (b ∷ more), all_counted n (b ∷ more)))
 
 -- ---- 10,000 of them
@@ -144,11 +145,11 @@ full_text : output (headed reads) ≡ times 10000 free_line ++ cycles_line
 unfolding output body printing
 full_text =
     let e : replicate (4 * 10000) 0 ++ [] ≡ reads = append-nil reads in
-    rw e at (printed 10000 [] Nothing (none_over 10000))
+    rw e at (printed 10000 [] None (none_over 10000))
 
 over_text : (b : ℕ) (more : List ℕ) → output (headed (reads ++ (b ∷ more))) ≡ times 10000 free_line ++ (budget_line ++ cycles_line)
 unfolding output body printing
-over_text b more = printed 10000 (b ∷ more) Budget (some_over 10000 b more)
+over_text b more = printed 10000 (b ∷ more) (Some Budget) (some_over 10000 b more)
 
 pub cases_hold : CasesClaim
 cases_hold = record {

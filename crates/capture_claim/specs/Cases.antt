@@ -1,6 +1,6 @@
 -- Captures and what is printed for them (document 02, W1): the whole case, one with a record of every kind, and those around the limit of 10,000
 -- cycles. Assumes nothing.
-use Rattle.std.specs.Prelude.{ℕ, zero, suc, ◌≡◌, false, List, [], ◌∷◌, ◌++◌, length, replicate}
+use Rattle.std.specs.Prelude.{ℕ, zero, suc, ◌≡◌, false, Some, List, [], ◌∷◌, ◌++◌, length, replicate}
 use Rattle.capture.specs.declared.Word.TheVariants.{BadKind}
 use Rattle.capture.specs.Capture.{count, word}
 use Rattle.capture.specs.Claims.{headed}
@@ -126,7 +126,7 @@ pub record CasesClaim : Type 0 where
   pub fresh : (start.device.control.established ≡ false) × (start.device.identity ≡ 0 ∷ 0 ∷ 0 ∷ 0 ∷ 0 ∷ [])
   pub answers : shown (heard start (calls_of cycle_limit kinds)) ≡ kind_answers
   pub counted : count cycle_limit kinds ≡ 33
-  pub ended : word cycle_limit kinds ≡ BadKind
+  pub ended : word cycle_limit kinds ≡ Some BadKind
   -- "prints 'bad head' alone"; "'bad tail' for one to three bytes over, whatever they hold"; "'bad kind' for a kind above 3"
   pub bad_head : output (0x4c ∷ 0x4f ∷ 0x43 ∷ 0x00 ∷ 0x02 ∷ 0x00 ∷ 0x00 ∷ 0x00 ∷ 0x00 ∷ []) ≡ bad_head_line
   pub bad_tail : output (headed (0x04 ∷ 0x00 ∷ 0x00 ∷ [])) ≡ bad_tail_text

@@ -20,18 +20,17 @@ const FIFO_BYTES: usize = 1024;
 pub fn put_output(capture: &[u8], out: &mut [u8]) -> usize
     ensures { Puts out.old 0 (output capture.now) out.new result }
 {
-    let mut answers = [0u8; ANSWER_BYTES];
-    let mut write_fifo = [0u8; FIFO_BYTES];
-    let mut read_fifo = [0u8; FIFO_BYTES];
+    let mut answers = [0; ANSWER_BYTES];
+    let mut write_fifo = [0; FIFO_BYTES];
+    let mut read_fifo = [0; FIFO_BYTES];
     let p = play(
         false,
-        [0u8; 5],
+        [0; 5],
         capture,
         CYCLE_LIMIT,
         &mut answers,
         &mut write_fifo,
         &mut read_fifo,
     );
-    let word = p.word;
-    put_text(out, &answers, word, p.cycles)
+    put_text(out, &answers, p.word, p.cycles)
 }

@@ -1,10 +1,12 @@
 -- Playing a capture (document 02, W1): each record is a call of the front, handed what the last one left, from a power-on on. Assumes nothing.
-use Rattle.std.specs.Prelude.{ℕ, suc, ◌+◌, ◌*◌, ◌≡◌, Bool, List, [], ◌∷◌, map, set, take}
+use Rattle.std.specs.Prelude.{ℕ, suc, ◌≡◌, Bool, List, [], ◌∷◌, map, take}
 use Rattle.std.proofs.lemmas.List.Edits.{sets}
 use Rattle.record.specs.declared.Device.{Device}
+use Rattle.text.specs.declared.Page.{Page}
+use Rattle.text.specs.Page.{Gains}
 use Rattle.call_power.specs.Power as power
 use Rattle.capture.specs.Capture.{records, played, count, word}
-use Rattle.claims.specs.Calls.{Call, State, state, Answer, changes, called, left, after, heard}
+use Rattle.claims.specs.Calls.{Call, State, state, Answer, changes, after, heard}
 use Rattle.capture_call.specs.Call.{call_of, shown_byte}
 use Rattle.capture_play.specs.declared.Played.{Played}
 
@@ -43,16 +45,19 @@ pub record Plays (p : Played) (a w r : List ℕ) (s : State) (limit : ℕ) (capt
 
 -- ---- the parts of the code
 
--- call c, as record i, leaves the record d, the FIFOs w and r, and its answer in its two bytes of those lent
-pub record Turns (d : Device) (a w r : List ℕ) (c : Call) (s : State) (i : ℕ) (lent : List ℕ) : Type 0 where
-  pub answers : a ≡ set (set lent (2 * i) (called c s).answer.refusal) (2 * i + 1) (shown_byte (called c s).answer.value)
-  pub left : state d w r ≡ left c s
+-- calls cs, made from s on, leave the record d, the FIFOs w and r, and their answers on the page
+pub record Turns (d : Device) (before after_all : Page) (w r : List ℕ) (cs : List Call) (s : State) : Type 0 where
+  pub answers : Gains before (shown (heard s cs)) after_all
+  pub left : state d w r ≡ after s cs
 
--- the calls of the first n records
+-- the calls of all whole records, and of the first n
+abbrev pub calls_in : List ℕ → List Call
+calls_in body = map call_of (records body)
+
 abbrev pub first_calls : ℕ → List ℕ → List Call
 first_calls n body = map call_of (take n (records body))
 
--- so do calls cs, as the first records
+-- calls cs leave that, and their answers in the bytes lent from the front on, as far as there is room
 pub record Runs (d : Device) (a w r : List ℕ) (cs : List Call) (s : State) (lent : List ℕ) : Type 0 where
   pub answers : a ≡ sets lent 0 (shown (heard s cs))
   pub left : state d w r ≡ after s cs

@@ -6,7 +6,7 @@ ghost use Rattle.std.specs.Prelude.{◌≡◌};
 ghost use Rattle.claims.specs.Calls.{state};
 ghost use Rattle.capture_play.specs.Play.{powered, Plays};
 
-use capture::{Word, body, scan};
+use capture::{Scanned, Word, body, scan};
 use record::Device;
 
 pub mod records;
@@ -16,7 +16,7 @@ use records::play_records;
 #[derive(Clone, Copy)]
 pub struct Played {
     pub cycles: usize,
-    pub word: Word,
+    pub word: Option<Word>,
     pub device: Device,
 }
 
@@ -32,21 +32,18 @@ pub fn play_from(
 ) -> Played
     ensures { Plays result answers.new write_fifo.new read_fifo.new (state device write_fifo.old read_fifo.old) limit capture.now answers.old }
 {
-    let s = scan(capture, limit);
-    let word = s.word;
-    let cycles = s.cycles;
-    let after = play_records(
-        device,
-        body(capture),
-        cycles,
-        answers,
-        write_fifo,
-        read_fifo,
-    );
+    let Scanned { cycles, word } = scan(capture, limit);
     Played {
         cycles,
         word,
-        device: after,
+        device: play_records(
+            device,
+            body(capture),
+            cycles,
+            answers,
+            write_fifo,
+            read_fifo,
+        ),
     }
 }
 
@@ -58,8 +55,7 @@ fn power_on(
 ) -> Device
     ensures { state result write_fifo.new read_fifo.new ≡ powered established identity write_fifo.old read_fifo.old }
 {
-    let o = tis::power_on(established, identity, write_fifo, read_fifo);
-    o.device
+    tis::power_on(established, identity, write_fifo, read_fifo).device
 }
 
 // From a power-on with that flag and those identity bytes on.

@@ -1,47 +1,24 @@
 // The records of a capture, one after the other.
-ghost use Rattle.std.specs.Prelude.{◌*◌, ◌+◌, ◌^◌, ◌≤◌, ◌<◌, length, set, ◌≡◌};
-ghost use Rattle.capture.specs.Capture.{cycle_at};
+ghost use Rattle.std.specs.Prelude.{◌*◌, ◌≤◌, length};
 ghost use Rattle.claims.specs.Calls.{state};
-ghost use Rattle.capture_call.specs.Call.{call_of};
-ghost use Rattle.capture_play.specs.Play.{first_calls, Turns, Runs};
+ghost use Rattle.capture_play.specs.Play.{calls_in, first_calls, Turns, Runs};
 
-use capture::cycle_at;
+use capture::{RECORD_BYTES, cycle_of};
 use capture_call::cycle;
 use record::Device;
 use refusal::number_of;
+use text::Page;
 
-// A byte at its place, if there is room.
-fn put(out: &mut [u8], i: usize, b: u8)
-    ensures { out.new ≡ set out.old i b }
+// All whole records, each with its answer on the page.
+fn turns(mut device: Device, body: &[u8], page: &mut Page, w: &mut [u8], r: &mut [u8]) -> Device
+    ensures { Turns result page.old page.new w.new r.new (calls_in body.now) (state device w.old r.old) }
 {
-    if i < out.len() {
-        out[i] = b;
+    for bytes in body.chunks_exact(RECORD_BYTES) {
+        let o = cycle(device, cycle_of(bytes), w, r);
+        page.put(&[number_of(o.refusal), o.byte]);
+        device = o.device;
     }
-}
-
-fn put_answer(out: &mut [u8], i: usize, refusal: u8, byte: u8)
-    requires { i + 1 < 2 ^ 64 }
-    ensures { out.new ≡ set (set out.old i refusal) (i + 1) byte }
-{
-    put(out, i, refusal);
-    put(out, i + 1, byte);
-}
-
-// Record i.
-fn turn(
-    device: Device,
-    body: &[u8],
-    i: usize,
-    answers: &mut [u8],
-    w: &mut [u8],
-    r: &mut [u8],
-) -> Device
-    requires { 4 * i + 4 ≤ length body.now }
-    ensures { Turns result answers.new w.new r.new (call_of (cycle_at body.now i)) (state device w.old r.old) i answers.old }
-{
-    let o = cycle(device, cycle_at(body, i), w, r);
-    put_answer(answers, 2 * i, number_of(o.refusal), o.byte);
-    o.device
+    device
 }
 
 // The first n.
@@ -56,12 +33,6 @@ pub fn play_records(
     requires { 4 * n ≤ length body.now }
     ensures { Runs result answers.new w.new r.new (first_calls n body.now) (state device w.old r.old) answers.old }
 {
-    let mut d = device;
-    let mut i: usize = 0;
-    while i < n {
-        let at = i;
-        i += 1;
-        d = turn(d, body, at, answers, w, r);
-    }
-    d
+    let mut page = Page::new(answers);
+    turns(device, &body[..RECORD_BYTES * n], &mut page, w, r)
 }

@@ -1,52 +1,24 @@
 // Reads standard input as far as it decides what is printed.
-ghost use Rattle.std.specs.Prelude.{◌≤◌, length};
+ghost use Rattle.std.specs.Prelude.{◌≤◌, IfOk, length};
 
 use capture::settled;
 use capture_output::CYCLE_LIMIT;
-use std::io::{Read, Stdin};
+use std::io::{self, Read, Stdin};
 
 // The head, the records within the limit, and the one byte more by which bytes remain: no case needs another.
 pub const CAPTURE_BYTES: usize = 40_006;
 
-// How many bytes came, and whether a read failed before they decided.
-#[derive(Clone, Copy)]
-pub struct Got {
-    pub bytes: usize,
-    pub failed: bool,
-}
-
-fn read_once(mut stdin: Stdin, rest: &mut [u8]) -> Got
-    ensures { result.bytes ≤ length rest.new }
+// Until the bytes decide, the input ends, or there is no room: how many came. A read that fails before they decide is an error.
+pub fn read_capture(mut stdin: Stdin, capture: &mut [u8]) -> io::Result<usize>
+    ensures { IfOk result (λ n. n ≤ length capture.new) }
 {
-    match stdin.read(rest) {
-        Ok(bytes) => Got {
-            bytes,
-            failed: false,
-        },
-        Err(_) => Got {
-            bytes: 0,
-            failed: true,
-        },
-    }
-}
-
-// Until the bytes decide, the input ends or fails, or there is no room.
-pub fn read_capture(stdin: Stdin, capture: &mut [u8]) -> Got
-    ensures { result.bytes ≤ length capture.new }
-{
-    let mut n: usize = 0;
-    while !settled(&capture[0..n], CYCLE_LIMIT) {
-        let got = read_once(stdin, &mut capture[n..]);
-        if got.bytes == 0 {
-            return Got {
-                bytes: n,
-                failed: got.failed,
-            };
+    let mut n = 0;
+    while !settled(&capture[..n], CYCLE_LIMIT) {
+        let more = stdin.read(&mut capture[n..])?;
+        if more == 0 {
+            break;
         }
-        n += got.bytes;
+        n += more;
     }
-    Got {
-        bytes: n,
-        failed: false,
-    }
+    Ok(n)
 }

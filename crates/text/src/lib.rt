@@ -1,57 +1,55 @@
-// Text put into a lent slice from a place on, as far as there is room; each function gives the place behind it.
+// Text put into lent bytes, from the front on, as far as there is room.
 #![tactic(auto)]
 
-ghost use Rattle.std.specs.Prelude.{◌≤◌, ◌<◌, ◌≡◌, [], ◌∷◌, length};
-ghost use Rattle.text.specs.Text.{decimal, hex_digit, hex_byte, Puts};
+ghost use Rattle.std.specs.Prelude.{◌≤◌, ◌<◌, ◌≡◌, length};
+ghost use Rattle.text.specs.Text.{decimal, hex_digit, hex_byte};
 
-pub fn put(out: &mut [u8], at: usize, b: u8) -> usize
-    requires { at ≤ length out.old }
-    ensures { Puts out.old at (b ∷ []) out.new result }
-{
-    if at < out.len() {
-        out[at] = b;
-        return at + 1;
-    }
-    at
+// Bytes lent for text, and how many of them hold some.
+// It is no `fmt::Write`: no writer can promise that `write!` gives no Err, of which nothing is known.
+#[derive(Drop)]
+pub struct Page<'a> {
+    pub lent: &'a mut [u8],
+    pub used: usize,
+    ghost within: { used ≤ length lent.now },
 }
 
-pub fn put_all(out: &mut [u8], at: usize, text: &[u8]) -> usize
-    requires { at ≤ length out.old }
-    ensures { Puts out.old at text.now out.new result }
-{
-    let mut next = at;
-    let mut i: usize = 0;
-    while i < text.len() {
-        let b = text[i];
-        i += 1;
-        next = put(out, next, b);
+impl<'a> Page<'a> {
+    ghost use Rattle.text.specs.Page.{Gains};
+
+    pub fn new(lent: &'a mut [u8]) -> Page<'a>
+        ensures same_reference { result.lent.ghost_name ≡ lent.entry.ghost_name }
+        ensures lent { result.lent.now ≡ lent.old }
+        ensures used { result.used ≡ 0 }
+    {
+        Page { lent, used: 0 }
     }
-    next
+
+    pub fn put(&mut self, text: &[u8])
+        ensures { Gains self.old text.now self.new }
+    {
+        let n = text.len().min(self.lent.len() - self.used);
+        self.lent[self.used..self.used + n].copy_from_slice(&text[..n]);
+        self.used += n;
+    }
+
+    pub fn put_hex(&mut self, b: u8)
+        ensures { Gains self.old (hex_byte b) self.new }
+    {
+        self.put(&[hex_digit(b / 16), hex_digit(b % 16)]);
+    }
+
+    pub fn put_decimal(&mut self, n: u64)
+        ensures { Gains self.old (decimal n) self.new }
+    {
+        let mut digits = [0; 20];
+        let k = io::decimal(n, &mut digits);
+        self.put(&digits[..k]);
+    }
 }
 
 fn hex_digit(d: u8) -> u8
     requires { d < 16 }
     ensures { result ≡ hex_digit d }
 {
-    if d < 10 {
-        return 48 + d;
-    }
-    55 + d
-}
-
-pub fn put_hex(out: &mut [u8], at: usize, b: u8) -> usize
-    requires { at ≤ length out.old }
-    ensures { Puts out.old at (hex_byte b) out.new result }
-{
-    let next = put(out, at, hex_digit(b / 16));
-    put(out, next, hex_digit(b % 16))
-}
-
-pub fn put_decimal(out: &mut [u8], at: usize, n: u64) -> usize
-    requires { at ≤ length out.old }
-    ensures { Puts out.old at (decimal n) out.new result }
-{
-    let mut digits = [0u8; 20];
-    let k = io::decimal(n, &mut digits);
-    put_all(out, at, &digits[..k])
+    if d < 10 { 48 + d } else { 55 + d }
 }

@@ -1,13 +1,10 @@
--- Each turn puts one line behind those before. Assumes nothing.
+-- One line more. Assumes nothing.
 use Rattle.std.proofs.Common.{rules}
-use Rattle.text.proofs.PutLaws.{puts_nothing}
-use Rattle.capture_text.specs.Lines.{lines_of}
-use Rattle.capture_text.proofs.LineLaws.{puts_next_line}
+use Rattle.capture_text.proofs.LineLaws.{ahead_more, ahead_none}
 use Rattle.capture_text.proofs.put_lines.Goals as goal
 
-pub loop-i-init : goal.loop-i-init
-unfolding lines_of
-loop-i-init c = search (rules, puts_nothing)
+pub loop-left-preserved : goal.loop-left-preserved
+loop-left-preserved c = ahead_more _ _ _ _ c.loop-left.invariant _ c.in-len2-up.len_at_least c.put_line.ensures
 
-pub loop-i-preserved : goal.loop-i-preserved
-loop-i-preserved c = (search rules, search rules, search (rules, puts_next_line))
+pub returns : goal.returns
+returns c = search (rules, ahead_none)

@@ -1,13 +1,9 @@
--- One record more. Assumes nothing.
+-- What the page holds is in the bytes lent. Assumes nothing.
 use Rattle.std.proofs.Common.{rules}
-use Rattle.capture_play.proofs.PlayLaws.{ahead_all, ahead_next, ahead_none}
+use Rattle.capture_play.proofs.PlayLaws.{first_turns, runs}
 use Rattle.capture_play.proofs.records.play_records.Goals as goal
 
-pub loop-i-init : goal.loop-i-init
-loop-i-init c = search (rules, ahead_all)
-
-pub loop-i-preserved : goal.loop-i-preserved
-loop-i-preserved c = (search rules, search rules, search rules, search rules, search (rules, ahead_next))
-
 pub returns : goal.returns
-returns c = search (rules, ahead_none)
+returns c =
+    let same = c.turns.ensures.answers.same_reference in
+    runs _ c.new-page.result c.turns.new.page _ _ _ _ _ _ c.new-page.ensures.lent c.new-page.ensures.used (first_turns c.args.n c.args.body.now c.requires _ _ _ _ _ _ c.turns.ensures) (search (rules, same))

@@ -1,9 +1,0 @@
--- Two bytes, one after the other. Assumes nothing.
-use borrow.Author.Rules.{rules}
-use Rattle.capture_play.proofs.records.put_answer.Statement.{statement}
-use Rattle.capture_play.proofs.records.put_answer.Tie as tie
-
-pub put_answer_spec : {M : Type 1} → statement M
-put_answer_spec =
-    tie.close
-    (tie.spec (λ c κs. search rules) (λ c. search rules) (λ c κs. search rules) (λ c. search rules) (λ c. cc))
