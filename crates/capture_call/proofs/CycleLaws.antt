@@ -1,8 +1,9 @@
 -- A record's call by its kind. Assumes nothing.
-use mathlib.Core.Path.{◌≡◌, refl, sym, subst}
+use mathlib.Core.Path.{◌≡◌, refl, sym, ap, subst}
 use mathlib.Core.List.{List}
 use Prim.Native.Nat.{ℕ}
 use borrow.Author.Tests.{eq-eqb, ne_eqb}
+use Rattle.refusal.specs.Refusal.{number_of}
 use Rattle.record.specs.declared.Device.{Device}
 use Rattle.call_outcome.specs.declared.Outcome.{Outcome}
 use Rattle.call_outcome.specs.declared.ReadOutcome.{ReadOutcome}
@@ -15,7 +16,7 @@ use Rattle.capture_call.specs.Call.{engine_answer, call_of, without_byte, Gives}
 -- what a call gives that is no read, and one that is
 pub gives_changes : (o : Outcome) (x : ReadOutcome) (w r : List ℕ) (t : Result) → x ≡ without_byte o → Leaves o w r t → Gives x w r (changes t)
 gives_changes o x w r t e l =
-    rw e (record { refusal = l.refusal; byte = refl; device = l.device; write_fifo = l.write_fifo; read_fifo = l.read_fifo })
+    rw e (record { refusal = ap number_of l.refusal; byte = refl; device = l.device; write_fifo = l.write_fifo; read_fifo = l.read_fifo })
 
 pub gives_read : (d : Device) (w r : List ℕ) (at : ℕ) (o : ReadOutcome) → o ≡ bus.read d w r at → Gives o w r (called (read at) (state d w r))
 gives_read d w r at o e = rw e (record { refusal = refl; byte = refl; device = refl; write_fifo = refl; read_fifo = refl })

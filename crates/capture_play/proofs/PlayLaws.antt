@@ -6,6 +6,7 @@ use Prim.Native.Nat.{ℕ, zero, suc, ◌*◌, ◌≤◌, ◌<◌}
 use native.Mathlib.Omega.{arith}
 use lib.ListN.{length, take, drop, length-map, take-append-drop}
 use lib.Seq.{length-take-le, take_all}
+use Rattle.refusal.specs.Refusal.{number_of}
 use Rattle.record.specs.declared.Device.{Device}
 use Rattle.call_outcome.specs.declared.Outcome.{Outcome}
 use Rattle.call_outcome.specs.declared.ReadOutcome.{ReadOutcome}
@@ -66,7 +67,7 @@ ahead_all p s body bytes e = rw e (record { answers = λ q g. g; left = refl })
 module _ (p₀ : Page) (s₀ : State) (body : List ℕ) (p : Page) (d : Device) (w r bytes : List ℕ) (so_far : Ahead p₀ s₀ body p (state d w r) bytes) where
   -- one call more
   pub ahead_more : (x rest : List ℕ) → bytes ≡ x ++ rest → length x ≡ 4 → (k : Cycle) → k ≡ cycle_at x 0 → (o : ReadOutcome) (w' r' : List ℕ) → Gives o w' r' (called (call_of k) (state d w r))
-      → (p' : Page) → Gains p (o.refusal ∷ o.byte ∷ []) p' → Ahead p₀ s₀ body p' (state o.device w' r') rest
+      → (p' : Page) → Gains p (number_of o.refusal ∷ o.byte ∷ []) p' → Ahead p₀ s₀ body p' (state o.device w' r') rest
   unfolding heard after shown
   ahead_more x rest e f k is o w' r' g p' put =
       let s : State = state d w r in

@@ -8,7 +8,7 @@ loop-bytes-preserved c = record {
   size = c.in-Some.ensures.steps.0 ∙ c.loop-bytes.invariant.size;
   ahead =
       ahead_more _ _ _ _ _ _ _ _ c.loop-bytes.invariant.ahead _ _ c.in-Some.ensures.steps.1.0 (c.in-Some.ensures.steps.1.1 ∙ c.loop-bytes.invariant.size)
-      _ c.cycle_of.ensures _ _ _ c.cycle-o.ensures _ c.put.ensures;
+      _ c.cycle_of.ensures _ _ _ c.cycle-o.ensures _ (rw c.number_of.ensures at c.put.ensures);
 }
 
 pub returns : goal.returns
