@@ -6,6 +6,7 @@ mod padding;
 mod streaming;
 
 pub use oneshot::{extend, hash};
+pub use streaming::join_lent;
 
 // A message as far as it came: the hash value after its whole blocks, the bytes behind them with 00h after them, and how many bytes in all.
 #[derive(Clone, Copy)]

@@ -6,6 +6,23 @@ use super::Stream;
 use super::padding::close;
 use sha1_block::block::{FIRST, compress};
 
+// A byte joins the parts of a stream, whatever its count, which stays the caller's. The tail is lent, since a copy of it for each byte would take
+// most of the time.
+#[tactic(auto, unfolding(crate::specs::Stream::join))]
+pub fn join_lent(h: [u32; 5], count: u32, tail: &mut [u8; 64], b: u8) -> [u32; 5]
+    ensures value { result ≡ (join_spec (record { h = h; tail = tail.old; count = count }) b).h }
+    ensures tail_after { tail.new ≡ (join_spec (record { h = h; tail = tail.old; count = count }) b).tail }
+{
+    let at = (count % 64) as usize;
+    tail[at] = b;
+    if at != 63 {
+        return h;
+    }
+    let next = compress(h, tail);
+    *tail = [0; 64];
+    next
+}
+
 impl Stream {
     // What stands for no message.
     pub fn nothing() -> Stream
@@ -29,18 +46,14 @@ impl Stream {
         }
     }
 
-    // A byte joins, in place, since a copy of the tail for each byte would take most of the time.
+    // A byte joins, in place.
+    #[tactic(auto, unfolding(crate::specs::Stream::join))]
     pub fn push(&mut self, b: u8)
         requires { self.old.count + 1 < 2 ^ 32 }
         ensures { self.new ≡ join_spec self.old b }
     {
-        let at = (self.count % 64) as usize;
-        self.tail[at] = b;
+        self.h = join_lent(self.h, self.count, &mut self.tail, b);
         self.count += 1;
-        if at == 63 {
-            self.h = compress(self.h, &self.tail);
-            self.tail = [0; 64];
-        }
     }
 
     // The bytes of a slice join, one after the other.
