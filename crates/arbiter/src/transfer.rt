@@ -11,6 +11,7 @@ use reg_layout::HASH_LOCALITY;
 pub fn next_owner(waiting: [bool; 5]) -> Option<Locality>
     ensures { result ≡ next_owner waiting }
 {
+    // A loop over the flags would need a cast of k and a bound on the sum, and be no shorter.
     let mask = flag_at(waiting[0], 0)
         + flag_at(waiting[1], 1)
         + flag_at(waiting[2], 2)
