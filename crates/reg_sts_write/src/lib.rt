@@ -8,6 +8,7 @@ pub mod completion;
 pub mod sts;
 
 // What a command bit, a FIFO write or an answer leaves, which interrupt causes it sets, and what it does to the FIFOs.
+// The rules take phase and run number as two, as the record has them: one in `Device`, one in `Control`.
 #[derive(Clone, Copy)]
 pub struct Commanded {
     pub phase: Phase,
