@@ -1,48 +1,61 @@
 // The calls that may change the record: each leaves the record and puts its outcome.
 use crate::put_refusal;
+use record::Device;
 use replay_form::fields::Fields;
 use replay_form::output::Output;
 use replay_record::State;
 use tis::Outcome;
 
 // A call that has nothing to say but its refusal.
-fn settle(o: Outcome, s: &mut State, out: &mut Output) {
+fn change<F: FnOnce(Device, &mut [u8], &mut [u8]) -> Outcome>(
+    s: &mut State,
+    out: &mut Output,
+    call: F,
+)
+    requires { F.IsAlwaysCallable call }
+{
+    let o = call(s.device, s.write.as_mut_slice(), s.read.as_mut_slice());
     s.device = o.device;
     put_refusal(out, o.refusal);
 }
 
 pub fn power_on(s: &mut State, mut args: Fields<'_>, out: &mut Output) {
     let established = args.flag();
-    let w = s.write.as_mut_slice();
-    let r = s.read.as_mut_slice();
-    settle(tis::power_on(established, args.take(), w, r), s, out);
+    let identity = args.take();
+    change(s, out, |_device, w, r| {
+        tis::power_on(established, identity, w, r)
+    });
 }
 
 pub fn reset(s: &mut State, out: &mut Output) {
-    let w = s.write.as_mut_slice();
-    let r = s.read.as_mut_slice();
-    settle(tis::reset(s.device, w, r), s, out);
+    change(s, out, tis::reset);
 }
 
 pub fn read(s: &mut State, mut args: Fields<'_>, out: &mut Output) {
-    let w = s.write.as_mut_slice();
-    let r = s.read.as_mut_slice();
-    let o = tis::read(s.device, w, r, args.u64());
+    let o = tis::read(
+        s.device,
+        s.write.as_mut_slice(),
+        s.read.as_mut_slice(),
+        args.u64(),
+    );
     s.device = o.device;
     put_refusal(out, o.refusal);
     out.put(&[o.byte]);
 }
 
 pub fn write(s: &mut State, mut args: Fields<'_>, out: &mut Output) {
-    let w = s.write.as_mut_slice();
-    let r = s.read.as_mut_slice();
-    settle(tis::write(s.device, w, r, args.u64(), args.byte()), s, out);
+    let offset = args.u64();
+    let byte = args.byte();
+    change(s, out, |device, w, r| {
+        tis::write(device, w, r, offset, byte)
+    });
 }
 
 pub fn respond(s: &mut State, mut args: Fields<'_>, out: &mut Output) {
     let run = args.u32();
     let n = usize::from(args.u16());
-    let w = s.write.as_mut_slice();
-    let r = s.read.as_mut_slice();
-    settle(tis::respond(s.device, w, r, run, args.bytes(n)), s, out);
+    let answer = args.bytes(n);
+    change(s, out, |device, w, r| {
+        tis::respond(device, w, r, run, answer)
+    });
 }

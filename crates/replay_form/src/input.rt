@@ -16,7 +16,7 @@ enum Source {
     Failed,
 }
 
-// The bytes from `at` to `end` are read and not yet played.
+// The bytes from `at` to `end` are read and not yet played; in fixed memory, since the library's `BufReader` wants an allocator.
 #[derive(Drop)]
 pub struct Input {
     stdin: Stdin,
