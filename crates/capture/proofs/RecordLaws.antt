@@ -1,7 +1,7 @@
 -- The records behind the head: how many are played, and which. Assumes nothing.
 use mathlib.Core.Path.{◌≡◌, refl, ap, ◌∙◌}
 use mathlib.Core.Bool.{Bool, true, false, cond}
-use mathlib.Core.List.{List, [], ◌∷◌, ◌++◌, map}
+use mathlib.Core.List.{List, [], ◌∷◌, ◌++◌}
 use Rattle.std.specs.List.{prefix_len}
 use mathlib.Core.Logic.{◌⊎◌, inl, inr}
 use Prim.Native.Nat.{ℕ, zero, suc, ◌+◌, ◌*◌, ◌≤◌, ◌<◌, min}
@@ -219,15 +219,6 @@ cuts_fours = record { short = short; front = front }
     front (k ∷ h ∷ []) rest e = absurd (omega arith)
     front (k ∷ h ∷ l ∷ []) rest e = absurd (omega arith)
     front (k ∷ h ∷ l ∷ v ∷ y ∷ x) rest e = absurd (omega arith)
-
--- a record's bytes make the record
-pub records_are : (body : List ℕ) → map (λ (r : List ℕ). cycle_at r 0) (fours body) ≡ records body
-unfolding fours records cycle_at
-records_are [] = refl
-records_are (k ∷ []) = refl
-records_are (k ∷ h ∷ []) = refl
-records_are (k ∷ h ∷ l ∷ []) = refl
-records_are (k ∷ h ∷ l ∷ v ∷ rest) = ap (λ (cs : List Cycle). record { kind = k; offset = 256 * h + l; byte = v } ∷ cs) (records_are rest)
 
 -- those of known kinds, up to the first other one, within a limit
 pub known_first : (limit : ℕ) (body : List ℕ) → prefix_len known (take limit (fours body)) ≡ count_of limit body

@@ -9,6 +9,7 @@ use call_outcome::{Outcome, ReadOutcome};
 use capture::Cycle;
 use record::Device;
 
+// The kinds' numbers (`capture::Cycle` says why they are no enum); any other kind is an answer's.
 const READ: u8 = 0;
 
 const WRITE: u8 = 1;

@@ -4,7 +4,7 @@
 ghost use Rattle.std.specs.Prelude.{◌≤◌, ◌<◌, ◌≡◌, length};
 ghost use Rattle.text.specs.Text.{decimal, hex_digit, hex_byte};
 
-// Bytes lent for text, and how many of them hold some.
+// Bytes that are lent, and how many of them are written, from the front on.
 // It is no `fmt::Write`: no writer can promise that `write!` gives no Err, of which nothing is known.
 #[derive(Drop)]
 pub struct Page<'a> {
@@ -47,6 +47,7 @@ impl<'a> Page<'a> {
     }
 }
 
+// Upper case. `sha1_text` has one of its own, lower case: one function with the case as a parameter is no plainer.
 fn hex_digit(d: u8) -> u8
     requires { d < 16 }
     ensures { result ≡ hex_digit d }
