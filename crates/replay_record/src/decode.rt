@@ -5,10 +5,6 @@ use record::{Causes, Control, Device, Interrupts, Launch, Phase};
 use replay_form::fields::Fields;
 use sha1_message::Stream;
 
-fn active(held: bool, x: u8) -> Option<Locality> {
-    if held { Some(Locality(x)) } else { None }
-}
-
 fn causes(image: &mut Fields<'_>) -> Causes {
     Causes {
         command_ready: image.flag(),
@@ -62,7 +58,7 @@ pub fn device_from(image: &mut Fields<'_>) -> Device {
     let interrupts = interrupts(image);
     let established = image.flag();
     let sequence = image.flag();
-    let active = active(held, image.byte());
+    let active = held.then_some(Locality(image.byte()));
     let phase = phase(image);
     let identity = image.take();
     let control = Control {
