@@ -67,7 +67,7 @@ pub fn answer_admission(
     if !(executes(v.phase) & (current == run)) {
         return Err(Refusal::Run);
     }
-    if (length < HEADER as usize) | (l.write < length) {
+    if (length < usize::from(HEADER)) | (l.write < length) {
         return Err(Refusal::AnswerLength);
     }
     Ok(())
@@ -81,7 +81,7 @@ pub fn pcr_admission(v: ShapeView, index: PcrIndex) -> Result<(), Refusal>
     if !in_shape(v, FIFO_GREATEST) {
         return Err(Refusal::Shape);
     }
-    if PCRS <= index.0 as usize {
+    if PCRS <= usize::from(index.0) {
         return Err(Refusal::Question);
     }
     Ok(())

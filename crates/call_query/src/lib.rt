@@ -89,12 +89,12 @@ fn span_in(p: Phase) -> Span
         Phase::Reception(n) | Phase::Execution(n) => Span {
             reading: false,
             start: 0,
-            stop: n as usize,
+            stop: usize::from(n),
         },
         Phase::Completion(n, k) => Span {
             reading: true,
-            start: k as usize,
-            stop: n as usize,
+            start: usize::from(k),
+            stop: usize::from(n),
         },
     }
 }

@@ -164,7 +164,7 @@ impl Bench<'_> {
 
 // A window is never longer than the greatest C; the digest of a longer one is left out.
 fn digest(part: &[u8]) -> [u8; 40] {
-    if part.len() > FIFO_GREATEST as usize {
+    if part.len() > usize::from(FIFO_GREATEST) {
         return [b'-'; 40];
     }
     sha1_text::hex(sha1_message::hash(part))
