@@ -63,6 +63,7 @@ pub fn with_active(s: Arbiter, o: Option<Locality>) -> Arbiter
     Arbiter { active: o, ..s }
 }
 
+// This and the next differ in the field, and a field can be no parameter.
 pub fn with_waiting(mut s: Arbiter, x: Page, b: bool) -> Arbiter
     ensures { result ≡ with_waiting s x.locality.0 b }
 {

@@ -13,7 +13,7 @@ use reg_layout::{ACCESS, HASH_DATA, HASH_END, HASH_LOCALITY, HASH_START, PAGE};
 use reg_map::{Register, register_at};
 
 // A hash start that counts; the end of an open sequence; a byte for one; a write that nothing heeds; one that reaches a register: ACCESS of
-// any page, any other register of the active locality's page alone.
+// any page, any other register of the active locality's page alone. Ignored is a kind that document 01 names, and no missing one.
 #[derive(Clone, Copy, PartialEq, Eq, Debug)]
 pub enum WriteKind {
     HashStart,

@@ -5,14 +5,14 @@ use record::Device;
 use refusal::Refusal;
 
 // What a call was refused for, none where it was accepted, and the record afterwards: a refused call has one too (`refusals_change_nothing`).
-#[derive(Clone, Copy)]
+#[derive(Clone, Copy, PartialEq, Eq, Debug)]
 pub struct Outcome {
     pub refusal: Option<Refusal>,
     pub device: Device,
 }
 
 // The same, with the byte that a read gives, beside the refusal since document 01 names a refused one's, FFh (`refusals_change_nothing.value`).
-#[derive(Clone, Copy)]
+#[derive(Clone, Copy, PartialEq, Eq, Debug)]
 pub struct ReadOutcome {
     pub refusal: Option<Refusal>,
     pub byte: u8,

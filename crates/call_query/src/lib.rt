@@ -15,7 +15,7 @@ use refusal::Refusal;
 use reg_interrupts::line_asserted;
 
 // A PCR's value beside the refusal, since document 01 names a refused one's, twenty 00h (`refusals_change_nothing.value`).
-#[derive(Clone, Copy)]
+#[derive(Clone, Copy, PartialEq, Eq, Debug)]
 pub struct PcrOutcome {
     pub refusal: Option<Refusal>,
     pub value: [u8; 20],
@@ -37,6 +37,7 @@ pub struct Span {
     pub stop: usize,
 }
 
+// This and the next differ in the table, which `pcr::table::permission` takes; users know both names, and the claims their contracts.
 pub fn may_reset(index: PcrIndex, x: Locality) -> Permission
     ensures { result ≡ permission may_reset index.0 x.0 }
 {

@@ -17,7 +17,7 @@ use refusal::Refusal;
 use reg_fifo::{FifoAction, update_fifos};
 use reg_sts_write::completion::enter_completion;
 
-// What an answer comes to; identity, hash sequence and PCRs stay.
+// What an answer comes to; identity, hash sequence and PCRs stay. No type in common with a write's: that has a kind of write, too.
 #[derive(Clone, Copy)]
 pub struct AnswerCycle {
     pub refusal: Option<Refusal>,

@@ -23,7 +23,7 @@ pub struct Cycle {
 }
 
 // What is printed for what is not played, if there is a word.
-#[derive(Clone, Copy)]
+#[derive(Clone, Copy, PartialEq, Eq, Debug)]
 pub enum Word {
     Budget,
     BadKind,

@@ -9,6 +9,7 @@ ghost use Rattle.capture_text.specs.Lines.{line_of, lines_of, word_text, cycles_
 use capture::Word;
 use text::Page;
 
+// Of a record's two bytes in the answers: the number of its refusal, 0 for none, and the byte.
 fn put_line(page: &mut Page, refusal: u8, byte: u8)
     ensures { Gains page.old (line_of refusal byte) page.new }
 {

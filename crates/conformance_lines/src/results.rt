@@ -1,4 +1,5 @@
 // What came of each kind of line, beside what it expects. A line's name and the rest of it may be any bytes: they are written as they are.
+// Refusals are numbers here, as the sheet has them: those of many calls are put together bit by bit in one byte.
 use crate::line::{Step, byte};
 use crate::show::{Pair, verdict};
 use std::fmt::Display;

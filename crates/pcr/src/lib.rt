@@ -19,7 +19,7 @@ pub struct Pcr {
 
 // The answer to a permission question: `allowed` beside the refusal, since document 01 names what a refused one gives, no
 // (`refusals_change_nothing.value`).
-#[derive(Clone, Copy)]
+#[derive(Clone, Copy, PartialEq, Eq, Debug)]
 pub struct Permission {
     pub refusal: Option<Refusal>,
     pub allowed: bool,

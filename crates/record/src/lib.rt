@@ -87,7 +87,7 @@ pub struct Interrupts {
 }
 
 // What an ordinary cycle may change besides the phase; small, so that no PCR is copied on its way.
-#[derive(Clone, Copy)]
+#[derive(Clone, Copy, PartialEq, Eq, Debug)]
 pub struct Control {
     pub arbiter: Arbiter,
     pub interrupts: Interrupts,
@@ -97,7 +97,7 @@ pub struct Control {
 
 // The hash sequence: whether one is open, and its stream, which is `nothing` while none is.
 // No Option of a stream: a lent record may count bytes with the sequence closed, which is refused as 6 (`record_shape::hash_fits`).
-#[derive(Clone, Copy)]
+#[derive(Clone, Copy, PartialEq, Eq, Debug)]
 pub struct Launch {
     pub sequence: bool,
     pub stream: Stream,
@@ -110,7 +110,7 @@ pub struct HashProgress {
     pub count: u32,
 }
 
-#[derive(Clone, Copy)]
+#[derive(Clone, Copy, PartialEq, Eq, Debug)]
 pub struct Device {
     pub control: Control,
     pub phase: Phase,

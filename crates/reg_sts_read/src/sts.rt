@@ -33,6 +33,7 @@ fn burst_left(all: u16, done: u16) -> u16
     BURST_CAP.min(all.saturating_sub(done))
 }
 
+// `expect` and c stay apart: the contract holds of any `expect`, and not only of what the two sizes give.
 pub fn burst_count(p: Phase, expect: bool, c: u16) -> u16
     ensures { result ≡ burst_count p expect c }
 {

@@ -39,6 +39,7 @@ impl<'a> Fields<'a> {
         }
     }
 
+    // One for each width: no trait of std has `from_le_bytes`, and one of ours would need four impls to save three lines.
     pub fn byte(&mut self) -> u8 {
         u8::from_le_bytes(self.take())
     }

@@ -37,17 +37,10 @@ impl Output {
         let _ = self.bytes.try_extend_from_slice(part);
     }
 
-    pub fn put_u16(&mut self, n: u16) {
-        self.put(&n.to_le_bytes());
-    }
-
     // The length of a part of a FIFO, which has no more than 9,000 bytes.
     pub fn put_length(&mut self, part: &[u8]) {
-        self.put_u16(part.len().min(LONGEST) as u16);
-    }
-
-    pub fn put_u32(&mut self, n: u32) {
-        self.put(&n.to_le_bytes());
+        let length = part.len().min(LONGEST) as u16;
+        self.put(&length.to_le_bytes());
     }
 
     pub fn put_flags<const N: usize>(&mut self, flags: [bool; N]) {

@@ -22,16 +22,16 @@ fn put_phase(out: &mut Output, p: Phase) {
         Phase::Completion(n, k) => (4, n, k),
     };
     out.put(&[kind]);
-    out.put_u16(n);
-    out.put_u16(k);
+    out.put(&n.to_le_bytes());
+    out.put(&k.to_le_bytes());
 }
 
 fn put_stream(out: &mut Output, s: Stream) {
     for word in &s.h {
-        out.put_u32(*word);
+        out.put(&word.to_le_bytes());
     }
     out.put(&s.tail);
-    out.put_u32(s.count);
+    out.put(&s.count.to_le_bytes());
 }
 
 pub fn put_device(out: &mut Output, d: Device) {
@@ -44,7 +44,7 @@ pub fn put_device(out: &mut Output, d: Device) {
     out.put(&[k.arbiter.active.map_or(0, |x| x.0)]);
     put_phase(out, d.phase);
     out.put(&d.identity);
-    out.put_u32(k.run);
+    out.put(&k.run.to_le_bytes());
     put_stream(out, d.launch.stream);
     for pcr in &d.pcrs {
         out.put(&pcr.bytes);

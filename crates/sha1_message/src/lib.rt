@@ -9,7 +9,7 @@ pub use oneshot::{extend, hash};
 pub use streaming::join_lent;
 
 // A message as far as it came: the hash value after its whole blocks, the bytes behind them with 00h after them, and how many bytes in all.
-#[derive(Clone, Copy)]
+#[derive(Clone, Copy, PartialEq, Eq, Debug)]
 pub struct Stream {
     pub h: [u32; 5],
     pub tail: [u8; 64],

@@ -3,9 +3,9 @@
 
 ghost use Rattle.std.specs.Prelude.{◌≤◌, ⊤, length, IfOk, MatchOption};
 
-const STDIN_FILENO: i32 = 0;
+use std::fmt;
 
-const STDOUT_FILENO: i32 = 1;
+const STDIN_FILENO: i32 = 0;
 
 // What ends a run before its input does.
 #[derive(Clone, Copy)]
@@ -14,9 +14,13 @@ enum Fault {
     TooLong,
 }
 
-// Bytes go out as they are; std prints a str, and these would have to be proved or tested to be one.
-fn say(text: &[u8]) {
-    io::write_all(STDOUT_FILENO, text);
+impl fmt::Display for Fault {
+    fn fmt<W: fmt::Write>(&self, f: &mut fmt::Formatter<W>) -> fmt::Result {
+        f.write_str(match self {
+            Fault::Truncated => "truncated message",
+            Fault::TooLong => "message longer than 4096 bytes",
+        })
+    }
 }
 
 // The length of the next message, and None where the input ends. std's read_exact would not tell that end from half a length.
@@ -38,42 +42,40 @@ fn next_length() -> Result<Option<usize>, Fault>
     Ok(Some(n))
 }
 
-// Reads a message that fills the slice and writes its digest.
-fn sum(body: &mut [u8]) -> Result<(), Fault>
+// Reads a message that fills the slice and writes its digest; one that cannot be written is left out.
+fn sum(rt: &impl Print, body: &mut [u8]) -> Result<(), Fault>
     requires { length body.old ≤ 4096 }
 {
     if io::read_full(STDIN_FILENO, body) < body.len() {
         return Err(Fault::Truncated);
     }
-    say(&sha1_text::hex(sha1_message::hash(body)));
-    say(b"\n");
+    let _ = rt.write_all(&sha1_text::hex(sha1_message::hash(body)));
+    let _ = rt.write_all(b"\n");
     Ok(())
 }
 
 // One message. Answers whether there was one.
-fn message() -> Result<bool, Fault> {
+fn message(rt: &impl Print) -> Result<bool, Fault> {
     let Some(n) = next_length()? else {
         return Ok(false);
     };
     let mut body = io::buffer();
-    sum(&mut body[..n])?;
+    sum(rt, &mut body[..n])?;
     Ok(true)
 }
 
 // A proved loop has to end, and nothing says that the input does: the turns are counted up to a number that no run comes to.
-fn run() -> Result<(), Fault> {
+fn run(rt: &impl Print) -> Result<(), Fault> {
     for _ in 0..u64::MAX {
-        if !message()? {
+        if !message(rt)? {
             break;
         }
     }
     Ok(())
 }
 
-fn main() {
-    match run() {
-        Ok(()) => {}
-        Err(Fault::Truncated) => say(b"truncated message\n"),
-        Err(Fault::TooLong) => say(b"message longer than 4096 bytes\n"),
+fn main(rt: HostRuntime) {
+    if let Err(fault) = run(&rt) {
+        let _ = println!(rt; "{fault}");
     }
 }

@@ -5,6 +5,6 @@ use Rattle.sha1_message.proofs.StreamLaws.{all_count}
 use Rattle.sha1_vectors.proofs.million.Goals as goal
 
 pub hundreds-preserved : goal.hundreds-preserved
-hundreds-preserved c =
+hundreds-preserved g c =
     let counted = ap (λ (s : Stream). s.count) c.push_all.ensures ∙ all_count _ _ in
     omega (arith, counted)

@@ -3,4 +3,4 @@ use Rattle.std.proofs.Common.{◌≡◌, ◌*◌}
 use Rattle.sha1_vectors.proofs.million.Given as goal
 
 abbrev pub invariant-hundreds : goal.invariant-hundreds
-invariant-hundreds l = l.s.count ≡ 100 * l.counter
+invariant-hundreds g l = l.s.count ≡ 100 * l.counter
