@@ -2,10 +2,9 @@
 use conformance_calls::{Bench, permission, unknown};
 use conformance_lines::line::{Kind, Step};
 use record::limits::FIFO_LEAST;
-use std::io;
 
 // A heading, or an empty line, does nothing.
-fn take(rt: &impl Print, bench: &mut Bench<'_>, s: &Step) -> io::Result<()> {
+fn take(rt: &impl Print, bench: &mut Bench<'_>, s: &Step) {
     match s.kind {
         Kind::PowerOn => bench.power_on(rt, s),
         Kind::Reset => bench.reset(rt, s),
@@ -21,7 +20,7 @@ fn take(rt: &impl Print, bench: &mut Bench<'_>, s: &Step) -> io::Result<()> {
         Kind::InterruptLine => bench.interrupt_line(rt, s),
         Kind::Pcr => bench.pcr(rt, s),
         Kind::Permission => permission(rt, s),
-        Kind::Heading => Ok(()),
+        Kind::Heading => {}
         Kind::Unknown => unknown(rt, s),
     }
 }
@@ -42,8 +41,7 @@ pub fn play(rt: &impl Print, write_fifo: &mut [u8], read_fifo: &mut [u8], sheet:
             write_fifo: &mut write_fifo[..n],
             read_fifo: &mut read_fifo[..m],
         };
-        // a line that cannot be written is left out, and the sheet is played on
-        let _ = take(rt, &mut bench, &s);
+        take(rt, &mut bench, &s);
         device = bench.device;
     }
 }

@@ -13,7 +13,6 @@ use pcr::PcrIndex;
 use record::Device;
 use record::limits::FIFO_GREATEST;
 use refusal::number_of;
-use std::io;
 use std::iter::repeat_n;
 use tis::ReadOutcome;
 
@@ -37,17 +36,17 @@ struct Received {
 
 impl Bench<'_> {
     // A power-on as the sheet has it: not established. The refusal number expected is the line's byte.
-    pub fn power_on(&mut self, rt: &impl Print, s: &Step) -> io::Result<()> {
+    pub fn power_on(&mut self, rt: &impl Print, s: &Step) {
         let o = tis::power_on(false, [0; 5], self.write_fifo, self.read_fifo);
         self.device = o.device;
-        show_power_on(rt, s, self.write_fifo.len(), number_of(o.refusal))
+        show_power_on(rt, s, self.write_fifo.len(), o.refusal);
     }
 
     // The refusal number expected is the line's byte.
-    pub fn reset(&mut self, rt: &impl Print, s: &Step) -> io::Result<()> {
+    pub fn reset(&mut self, rt: &impl Print, s: &Step) {
         let o = tis::reset(self.device, self.write_fifo, self.read_fifo);
         self.device = o.device;
-        show_reset(rt, s, number_of(o.refusal))
+        show_reset(rt, s, o.refusal);
     }
 
     // The bytes are written at the offset, one after the other: the bits of all refusal numbers, 0 where each was accepted.
@@ -65,25 +64,25 @@ impl Bench<'_> {
     }
 
     // The byte is written as often as the line says; the bits of all refusal numbers are those expected.
-    pub fn write(&mut self, rt: &impl Print, s: &Step) -> io::Result<()> {
+    pub fn write(&mut self, rt: &impl Print, s: &Step) {
         let n = s.times();
         let refusals = self.send(s.offset(), repeat_n(s.byte, n));
-        show_writes(rt, s, " x ", n, refusals)
+        show_writes(rt, s, " x ", n, refusals);
     }
 
     // As many characters of the line as its byte says, 40 at most, are written at the offset.
-    pub fn text(&mut self, rt: &impl Print, s: &Step) -> io::Result<()> {
+    pub fn text(&mut self, rt: &impl Print, s: &Step) {
         let n = usize::from(s.byte).min(s.rest.len());
         let refusals = self.send(s.offset(), s.rest[..n].iter().copied());
-        show_text(rt, s, refusals)
+        show_text(rt, s, refusals);
     }
 
     // Free bytes from the line's byte on are written at the offset, as many as the line says, LONGEST at most.
-    pub fn fill(&mut self, rt: &impl Print, s: &Step) -> io::Result<()> {
+    pub fn fill(&mut self, rt: &impl Print, s: &Step) {
         let mut room = [0; LONGEST];
         let bytes = s.free_bytes(&mut room);
         let refusals = self.send(s.offset(), bytes.iter().copied());
-        show_writes(rt, s, ".. ", bytes.len(), refusals)
+        show_writes(rt, s, ".. ", bytes.len(), refusals);
     }
 
     // What a read gives, the record not yet taken over.
@@ -92,10 +91,10 @@ impl Bench<'_> {
     }
 
     // A read gives the byte and the refusal number.
-    pub fn read(&mut self, rt: &impl Print, s: &Step) -> io::Result<()> {
+    pub fn read(&mut self, rt: &impl Print, s: &Step) {
         let o = self.outcome_at(s.offset());
         self.device = o.device;
-        show_read(rt, s, o.byte, number_of(o.refusal))
+        show_read(rt, s, o.byte, o.refusal);
     }
 
     // The bytes read at the offset, one after the other, should be these.
@@ -111,54 +110,54 @@ impl Bench<'_> {
     }
 
     // Free bytes from the line's byte on are read at the offset, as many as the line says, LONGEST at most.
-    pub fn drain(&mut self, rt: &impl Print, s: &Step) -> io::Result<()> {
+    pub fn drain(&mut self, rt: &impl Print, s: &Step) {
         let mut room = [0; LONGEST];
         let expected = s.free_bytes(&mut room);
         let all = self.receive(s.offset(), expected);
-        show_drain(rt, s, expected.len(), all.differences, all.refusals)
+        show_drain(rt, s, expected.len(), all.differences, all.refusals);
     }
 
     // The engine answers the run of the offset's low byte; the refusal number expected is the high byte.
-    fn answer(&mut self, rt: &impl Print, s: &Step, answer: &[u8]) -> io::Result<()> {
+    fn answer(&mut self, rt: &impl Print, s: &Step, answer: &[u8]) {
         let run = u32::from(s.low);
         let o = tis::respond(self.device, self.write_fifo, self.read_fifo, run, answer);
         self.device = o.device;
-        show_answer(rt, s, number_of(o.refusal))
+        show_answer(rt, s, o.refusal);
     }
 
     // The answer has as many bytes as the line's byte says, 20 at most.
-    pub fn respond(&mut self, rt: &impl Print, s: &Step) -> io::Result<()> {
+    pub fn respond(&mut self, rt: &impl Print, s: &Step) {
         let answer = s.answer();
         let n = usize::from(s.byte).min(answer.len());
-        self.answer(rt, s, &answer[..n])
+        self.answer(rt, s, &answer[..n]);
     }
 
     // So too, with free bytes from the line's byte on, as many as the line says, LONGEST at most.
-    pub fn respond_free(&mut self, rt: &impl Print, s: &Step) -> io::Result<()> {
+    pub fn respond_free(&mut self, rt: &impl Print, s: &Step) {
         let mut room = [0; LONGEST];
         let answer = s.free_bytes(&mut room);
-        self.answer(rt, s, answer)
+        self.answer(rt, s, answer);
     }
 
     // The window has as many bytes as the offset says, with that digest; the refusal number expected is the line's byte.
-    pub fn window(&self, rt: &impl Print, s: &Step) -> io::Result<()> {
+    pub fn window(&self, rt: &impl Print, s: &Step) {
         let o = tis::window(self.device, self.write_fifo, self.read_fifo);
-        show_window(rt, s, o.bytes.len(), digest(o.bytes), number_of(o.refusal))
+        show_window(rt, s, o.bytes.len(), digest(o.bytes), o.refusal);
     }
 
-    pub fn run(&self, rt: &impl Print, s: &Step) -> io::Result<()> {
-        show_run(rt, s, self.device.control.run)
+    pub fn run(&self, rt: &impl Print, s: &Step) {
+        show_run(rt, s, self.device.control.run);
     }
 
     // The interrupt line, asserted where the line's byte is 1.
-    pub fn interrupt_line(&self, rt: &impl Print, s: &Step) -> io::Result<()> {
-        show_line(rt, s, tis::interrupt_line(self.device))
+    pub fn interrupt_line(&self, rt: &impl Print, s: &Step) {
+        show_line(rt, s, tis::interrupt_line(self.device));
     }
 
     // The PCR of the offset's low byte; the refusal number expected is the line's byte.
-    pub fn pcr(&self, rt: &impl Print, s: &Step) -> io::Result<()> {
+    pub fn pcr(&self, rt: &impl Print, s: &Step) {
         let o = tis::pcr_value(self.device, PcrIndex(s.low));
-        show_pcr(rt, s, sha1_text::hex(o.value), number_of(o.refusal))
+        show_pcr(rt, s, sha1_text::hex(o.value), o.refusal);
     }
 }
 
@@ -171,14 +170,14 @@ fn digest(part: &[u8]) -> [u8; 40] {
 }
 
 // May the locality of the offset's high byte reset the PCR of its low byte, and may it extend it.
-pub fn permission(rt: &impl Print, s: &Step) -> io::Result<()> {
+pub fn permission(rt: &impl Print, s: &Step) {
     let reset = tis::may_reset(PcrIndex(s.low), Locality(s.high));
     let extend = tis::may_extend(PcrIndex(s.low), Locality(s.high));
     let refusal = number_of(reset.refusal) | number_of(extend.refusal);
-    show_permission(rt, s, reset.allowed, extend.allowed, refusal)
+    show_permission(rt, s, reset.allowed, extend.allowed, refusal);
 }
 
 // A line with another letter is shown as not understood, and does nothing.
-pub fn unknown(rt: &impl Print, s: &Step) -> io::Result<()> {
-    show_unknown(rt, s)
+pub fn unknown(rt: &impl Print, s: &Step) {
+    show_unknown(rt, s);
 }
