@@ -6,5 +6,7 @@
 pub use call_bus::{read, write};
 pub use call_outcome::{Outcome, ReadOutcome};
 pub use call_power::{power_on, reset};
-pub use call_query::{PcrOutcome, WindowOutcome, interrupt_line, may_extend, may_reset, pcr_value, window};
+pub use call_query::{
+    PcrOutcome, WindowOutcome, interrupt_line, may_extend, may_reset, pcr_value, window,
+};
 pub use call_respond::respond;
