@@ -2,6 +2,7 @@
 ghost use Rattle.std.specs.Prelude.{◌≡◌, ◌≤◌, length};
 ghost use Rattle.reg_layout.specs.Offsets.{last_offset};
 ghost use Rattle.record.specs.Limits.{fifo_least, fifo_greatest};
+ghost use Rattle.record.specs.Record.{hash_progress};
 ghost use Rattle.call_bus.specs.Bus.{accepted_read, read_cycle, read as read_spec};
 
 use crate::cycle_admission;
@@ -10,7 +11,7 @@ use arbiter::access::holds;
 use bus_read::register_read;
 use bus_resolve::page_at;
 use call_outcome::ReadOutcome;
-use record::{Control, Device, HashProgress, Phase, hash_progress};
+use record::{Control, Device, Phase};
 use record_shape::lengths_of;
 use refusal::Refusal;
 use reg_layout::PAGE;
@@ -56,30 +57,22 @@ fn accepted_read(
 }
 
 #[tactic(auto, unfolding(crate::specs::Bus::read_cycle))]
-pub fn read_cycle(
-    control: Control,
-    phase: Phase,
-    hash: HashProgress,
-    identity: [u8; 5],
-    write_fifo: &[u8],
-    read_fifo: &[u8],
-    offset: u64,
-) -> ReadCycle
-    ensures { result ≡ read_cycle control phase hash identity write_fifo.now read_fifo.now offset }
+pub fn read_cycle(device: &Device, write_fifo: &[u8], read_fifo: &[u8], offset: u64) -> ReadCycle
+    ensures { result ≡ read_cycle device.now.control device.now.phase (hash_progress device.now.launch) device.now.identity write_fifo.now read_fifo.now offset }
 {
     let lengths = lengths_of(write_fifo, read_fifo);
-    if let Err(refusal) = cycle_admission(control, phase, hash, lengths, offset) {
+    if let Err(refusal) = cycle_admission(device, lengths, offset) {
         return ReadCycle {
             refusal: Some(refusal),
             byte: 0xff,
-            phase,
+            phase: device.phase,
         };
     }
     accepted_read(
         offset as u16,
-        control,
-        phase,
-        identity,
+        device.control,
+        device.phase,
+        device.identity,
         write_fifo,
         read_fifo,
     )
@@ -89,15 +82,7 @@ pub fn read_cycle(
 pub fn read(device: Device, write_fifo: &[u8], read_fifo: &[u8], offset: u64) -> ReadOutcome
     ensures { result ≡ read_spec device write_fifo.now read_fifo.now offset }
 {
-    let t = read_cycle(
-        device.control,
-        device.phase,
-        hash_progress(device.launch),
-        device.identity,
-        write_fifo,
-        read_fifo,
-        offset,
-    );
+    let t = read_cycle(&device, write_fifo, read_fifo, offset);
     ReadOutcome {
         refusal: t.refusal,
         byte: t.byte,

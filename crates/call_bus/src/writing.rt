@@ -2,6 +2,7 @@
 ghost use Rattle.std.specs.Prelude.{◌≡◌, ◌≤◌, length};
 ghost use Rattle.reg_layout.specs.Offsets.{last_offset};
 ghost use Rattle.record.specs.Limits.{fifo_least, fifo_greatest};
+ghost use Rattle.record.specs.Record.{hash_progress};
 ghost use Rattle.call_outcome.specs.Result.{Leaves};
 ghost use Rattle.call_bus.specs.Bus.{refused_write, accepted_write, write_cycle, Cycled, write as write_spec};
 
@@ -11,7 +12,7 @@ use bus_resolve::{WriteKind, page_at, resolve};
 use bus_write::write_effect;
 use call_outcome::Outcome;
 use launch::{hash_step, launch_after, overlong, pcrs_after};
-use record::{Control, Device, HashProgress, Phase, hash_progress};
+use record::{Control, Device, Phase, hash_progress};
 use record_shape::lengths_of;
 use refusal::Refusal;
 use reg_fifo::{FifoAction, update_fifos};
@@ -75,26 +76,33 @@ fn accepted_write(
 
 #[tactic(auto, unfolding(crate::specs::Bus::write_cycle))]
 pub fn write_cycle(
-    control: Control,
-    phase: Phase,
-    hash: HashProgress,
+    device: &Device,
     write_fifo: &mut [u8],
     read_fifo: &mut [u8],
     offset: u64,
     byte: u8,
 ) -> WriteCycle
-    ensures { Cycled result write_fifo.old read_fifo.old byte write_fifo.new read_fifo.new (write_cycle control phase hash write_fifo.old read_fifo.old offset byte) }
+    ensures { Cycled result write_fifo.old read_fifo.old byte write_fifo.new read_fifo.new (write_cycle device.now.control device.now.phase (hash_progress device.now.launch) write_fifo.old read_fifo.old offset byte) }
 {
     let lengths = lengths_of(write_fifo, read_fifo);
-    if let Err(refusal) = cycle_admission(control, phase, hash, lengths, offset) {
-        return refused_write(refusal, control, phase);
+    if let Err(refusal) = cycle_admission(device, lengths, offset) {
+        return refused_write(refusal, device.control, device.phase);
     }
     let at = offset as u16;
-    let kind = resolve(at, hash.sequence, control.arbiter.active);
+    let hash = hash_progress(device.launch);
+    let kind = resolve(at, hash.sequence, device.control.arbiter.active);
     if overlong(kind, hash.count) {
-        return refused_write(Refusal::HashLength, control, phase);
+        return refused_write(Refusal::HashLength, device.control, device.phase);
     }
-    accepted_write(kind, at, control, phase, write_fifo, read_fifo, byte)
+    accepted_write(
+        kind,
+        at,
+        device.control,
+        device.phase,
+        write_fifo,
+        read_fifo,
+        byte,
+    )
 }
 
 // A step of the hash sequence goes a way of its own, since the bank and the stream are left alone on the other.
@@ -108,15 +116,7 @@ pub fn write(
 ) -> Outcome
     ensures { Leaves result write_fifo.new read_fifo.new (write_spec device write_fifo.old read_fifo.old offset byte) }
 {
-    let t = write_cycle(
-        device.control,
-        device.phase,
-        hash_progress(device.launch),
-        write_fifo,
-        read_fifo,
-        offset,
-        byte,
-    );
+    let t = write_cycle(&device, write_fifo, read_fifo, offset, byte);
     if hash_step(t.kind) {
         // a variable of its own: the borrow checker has no rule for an array field put straight into a literal
         let identity = device.identity;

@@ -16,8 +16,7 @@ use Rattle.pcr.specs.declared.Permission.{Permission}
 use Rattle.record.specs.declared.Device.{Device}
 use Rattle.call_admission.specs.Refusals.{lent_refusal_of, pcr_refusal_of}
 use Rattle.call_query.specs.declared.PcrOutcome.{PcrOutcome}
-use Rattle.call_query.specs.declared.Span.{Span}
-use Rattle.call_query.specs.Query.{pcr_outcome, pcr_value, no_span, span_in, window_span}
+use Rattle.call_query.specs.Query.{Span, pcr_outcome, pcr_value, no_span, span_in, window_span}
 
 pub data PcrCase (d : Device) (i : ℕ) : PcrOutcome → Type 0 where
   refused : {n : Option Refusal} → (n ≡ None → ⊥) → PcrCase d i (pcr_outcome n (all_bytes 0))

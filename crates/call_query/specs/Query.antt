@@ -10,7 +10,6 @@ use Rattle.record.specs.declared.Phase.TheVariants.{Idle, Ready, Reception, Exec
 use Rattle.reg_interrupts.specs.Interrupts.{line_asserted}
 use Rattle.call_admission.specs.Refusals.{lent_refusal_of, pcr_refusal_of}
 use Rattle.call_query.specs.declared.PcrOutcome.{PcrOutcome}
-use Rattle.call_query.specs.declared.Span.{Span}
 
 abbrev pub pcr_outcome : Option Refusal → List ℕ → PcrOutcome
 pcr_outcome n value = record { refusal = n; value = value }
@@ -27,6 +26,11 @@ interrupt_line d = line_asserted d.control.interrupts
 -- ---- the maintenance window
 
 -- a part of one of the two FIFOs: of the ReadFIFO or not, from where to where
+pub record Span : Type 0 where
+  pub reading : Bool
+  pub start : ℕ
+  pub stop : ℕ
+
 abbrev pub span : Bool → ℕ → ℕ → Span
 span of_read from to = record { reading = of_read; start = from; stop = to }
 

@@ -1,10 +1,10 @@
 // The questions asked of the record, and of the permission table (document 01).
 #![tactic(auto)]
 
-ghost use Rattle.std.specs.Prelude.{◌≡◌};
+ghost use Rattle.std.specs.Prelude.{◌≡◌, ◌≤◌, length};
 ghost use Rattle.pcr.specs.Permission.{permission, may_reset, may_extend};
 ghost use Rattle.call_admission.specs.Refusals.{lent_refusal_of};
-ghost use Rattle.call_query.specs.Query.{pcr_value, interrupt_line, no_span, span_in, window_span, Window};
+ghost use Rattle.call_query.specs.Query.{pcr_value, interrupt_line, span_in, window_span, Window};
 
 use arbiter::Locality;
 use call_admission::{lent_admission_of, pcr_admission};
@@ -27,14 +27,6 @@ pub struct PcrOutcome {
 pub struct WindowOutcome<'a> {
     pub refusal: Option<Refusal>,
     pub bytes: &'a [u8],
-}
-
-// The part of a FIFO that is in use: of which FIFO, from where to where.
-#[derive(Clone, Copy)]
-pub struct Span {
-    pub reading: bool,
-    pub start: usize,
-    pub stop: usize,
 }
 
 // This and the next differ in the table, which `pcr::table::permission` takes; users know both names, and the claims their contracts.
@@ -72,35 +64,18 @@ pub fn pcr_value(device: Device, index: PcrIndex) -> PcrOutcome
     }
 }
 
-fn no_span() -> Span
-    ensures { result ≡ no_span }
+// The part of a FIFO that is in use.
+fn part_in_use<'a>(phase: Phase, write_fifo: &'a [u8], read_fifo: &'a [u8]) -> &'a [u8]
+    requires { ((span_in phase).start ≤ (span_in phase).stop) × ((span_in phase).stop ≤ length write_fifo.now) × ((span_in phase).stop ≤ length read_fifo.now) }
+    ensures { Window (span_in phase) write_fifo.entry read_fifo.entry result }
 {
-    Span {
-        reading: false,
-        start: 0,
-        stop: 0,
+    match phase {
+        Phase::Idle | Phase::Ready => &write_fifo[..0],
+        Phase::Reception(n) | Phase::Execution(n) => &write_fifo[..usize::from(n)],
+        Phase::Completion(n, k) => &read_fifo[usize::from(k)..usize::from(n)],
     }
 }
 
-fn span_in(p: Phase) -> Span
-    ensures { result ≡ span_in p }
-{
-    match p {
-        Phase::Idle | Phase::Ready => no_span(),
-        Phase::Reception(n) | Phase::Execution(n) => Span {
-            reading: false,
-            start: 0,
-            stop: usize::from(n),
-        },
-        Phase::Completion(n, k) => Span {
-            reading: true,
-            start: usize::from(k),
-            stop: usize::from(n),
-        },
-    }
-}
-
-// Shows the part of the lent FIFO that is in use.
 #[tactic(auto, using(crate::proofs::QueryLaws::span_fits), unfolding(crate::specs::Query::window_span))]
 pub fn window<'a>(device: Device, write_fifo: &'a [u8], read_fifo: &'a [u8]) -> WindowOutcome<'a>
     ensures window { Window (window_span device write_fifo.now read_fifo.now) write_fifo.entry read_fifo.entry result.bytes }
@@ -112,10 +87,8 @@ pub fn window<'a>(device: Device, write_fifo: &'a [u8], read_fifo: &'a [u8]) -> 
             bytes: &write_fifo[..0],
         };
     }
-    let span = span_in(device.phase);
-    let fifo = if span.reading { read_fifo } else { write_fifo };
     WindowOutcome {
         refusal: None,
-        bytes: &fifo[span.start..span.stop],
+        bytes: part_in_use(device.phase, write_fifo, read_fifo),
     }
 }

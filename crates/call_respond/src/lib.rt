@@ -3,7 +3,8 @@
 
 ghost use Rattle.std.specs.Prelude.{◌≡◌, ◌<◌, ◌≤◌, length};
 ghost use Rattle.std.specs.Result.{result_err};
-ghost use Rattle.record_shape.specs.Shape.{shape_view};
+ghost use Rattle.record.specs.Record.{hash_progress};
+ghost use Rattle.record_shape.specs.Shape.{view_of};
 ghost use Rattle.call_admission.specs.Refusals.{answer_refusal};
 ghost use Rattle.call_outcome.specs.Result.{Leaves};
 ghost use Rattle.call_respond.specs.Respond.{refused_answer, accepted_answer, answer_cycle, Answered, respond as respond_spec};
@@ -11,7 +12,7 @@ ghost use Rattle.call_respond.specs.Respond.{refused_answer, accepted_answer, an
 use bus_write::apply_command;
 use call_admission::answer_admission;
 use call_outcome::Outcome;
-use record::{Control, Device, HashProgress, Phase, hash_progress};
+use record::{Control, Device, Phase, hash_progress};
 use record_shape::{Lengths, lengths_of, shape_view};
 use refusal::Refusal;
 use reg_fifo::{FifoAction, update_fifos};
@@ -58,42 +59,28 @@ fn accepted_answer(
 }
 
 // 2, 6, 3, 4.
-fn admission_for(
-    control: Control,
-    phase: Phase,
-    hash: HashProgress,
-    lengths: Lengths,
-    run: u32,
-    length: usize,
-) -> Result<(), Refusal>
-    ensures { result_err result ≡ answer_refusal (shape_view control phase hash) lengths control.run run length }
+fn admission_for(device: &Device, lengths: Lengths, run: u32, length: usize) -> Result<(), Refusal>
+    ensures { result_err result ≡ answer_refusal (view_of device.now) lengths device.now.control.run run length }
 {
-    answer_admission(
-        shape_view(control, phase, hash),
-        lengths,
-        control.run,
-        run,
-        length,
-    )
+    let view = shape_view(device.control, device.phase, hash_progress(device.launch));
+    answer_admission(view, lengths, device.control.run, run, length)
 }
 
 #[tactic(auto, unfolding(crate::specs::Respond::answer_cycle))]
 pub fn answer_cycle(
-    control: Control,
-    phase: Phase,
-    hash: HashProgress,
+    device: &Device,
     write_fifo: &mut [u8],
     read_fifo: &mut [u8],
     run: u32,
     answer: &[u8],
 ) -> AnswerCycle
-    ensures { Answered result write_fifo.old read_fifo.old answer.now write_fifo.new read_fifo.new (answer_cycle control phase hash write_fifo.old read_fifo.old run answer.now) }
+    ensures { Answered result write_fifo.old read_fifo.old answer.now write_fifo.new read_fifo.new (answer_cycle device.now.control device.now.phase (hash_progress device.now.launch) write_fifo.old read_fifo.old run answer.now) }
 {
     let lengths = lengths_of(write_fifo, read_fifo);
-    if let Err(refusal) = admission_for(control, phase, hash, lengths, run, answer.len()) {
-        return refused_answer(refusal, control, phase);
+    if let Err(refusal) = admission_for(device, lengths, run, answer.len()) {
+        return refused_answer(refusal, device.control, device.phase);
     }
-    accepted_answer(control, write_fifo, read_fifo, answer)
+    accepted_answer(device.control, write_fifo, read_fifo, answer)
 }
 
 #[tactic(auto, unfolding(crate::specs::Respond::respond))]
@@ -106,15 +93,7 @@ pub fn respond(
 ) -> Outcome
     ensures { Leaves result write_fifo.new read_fifo.new (respond_spec device write_fifo.old read_fifo.old run answer.now) }
 {
-    let t = answer_cycle(
-        device.control,
-        device.phase,
-        hash_progress(device.launch),
-        write_fifo,
-        read_fifo,
-        run,
-        answer,
-    );
+    let t = answer_cycle(&device, write_fifo, read_fifo, run, answer);
     Outcome {
         refusal: t.refusal,
         device: Device {

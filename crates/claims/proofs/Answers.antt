@@ -34,7 +34,7 @@ use Rattle.call_outcome.specs.Result.{Result}
 use Rattle.call_outcome.specs.declared.ReadOutcome.{ReadOutcome}
 use Rattle.call_power.proofs.Cases.{power_case}
 use Rattle.call_query.specs.Query as query
-use Rattle.call_query.specs.declared.Span.{Span}
+use Rattle.call_query.specs.Query.{Span}
 use Rattle.call_query.proofs.Cases as asking
 use Rattle.call_query.proofs.Cases.{WindowCase, window_case}
 use Rattle.call_bus.proofs.Cases as bus

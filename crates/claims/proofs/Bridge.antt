@@ -19,8 +19,7 @@ use Rattle.call_power.specs.Power as power
 use Rattle.call_bus.specs.Bus as bus
 use Rattle.call_respond.specs.Respond as engine
 use Rattle.call_query.specs.Query as query
-use Rattle.call_query.specs.Query.{of_two}
-use Rattle.call_query.specs.declared.Span.{Span}
+use Rattle.call_query.specs.Query.{Span, of_two}
 use Rattle.call_query.specs.declared.WindowOutcome.{WindowOutcome}
 use Rattle.claims.specs.Calls.{Call, power_on, reset, read, write, respond, pcr_value, interrupt_line, may_reset, may_extend, window, State, state, nothing, Answer, Called, changes, gives, called, left, after, heard, OverLists, Lent, lent_after, lent_heard, OverLent}
 use Rattle.claims.proofs.Steps.{Step, powers_on, resets, reads, writes, responds, asks_pcr, asks_line, asks_reset, asks_extend, looks, Runs, none, more, OnContracts, LentRuns, none_lent, more_lent, OnLentContracts}

@@ -14,7 +14,7 @@ use Rattle.call_outcome.specs.declared.ReadOutcome.{ReadOutcome}
 use Rattle.call_query.proofs.Cases as query
 use Rattle.call_query.proofs.Cases.{PcrCase, pcr_case, WindowCase, window_case, PermissionCase, permission_case}
 use Rattle.call_query.specs.declared.PcrOutcome.{PcrOutcome}
-use Rattle.call_query.specs.declared.Span.{Span}
+use Rattle.call_query.specs.Query.{Span}
 use Rattle.pcr.specs.Permission as table
 use Rattle.pcr.specs.declared.Permission.{Permission}
 use Rattle.call_bus.proofs.Cases as bus

@@ -12,7 +12,7 @@ use Rattle.call_bus.specs.Bus as bus
 use Rattle.call_respond.specs.Respond as engine
 use Rattle.call_query.specs.Query as query
 use Rattle.call_query.specs.declared.PcrOutcome.{PcrOutcome}
-use Rattle.call_query.specs.declared.Span.{Span}
+use Rattle.call_query.specs.Query.{Span}
 use Rattle.pcr.specs.declared.Permission.{Permission}
 
 -- ---- a call

@@ -20,7 +20,7 @@ pub number_accepted : (n : Option Refusal) → number_of n ≡ accepted → n �
 number_accepted None e = refl
 number_accepted (Some r) e = absurd (number_positive r e)
 
--- and no refusal of a refused one
+-- the number of a refused call is not 0
 pub number_refused : (n : Option Refusal) → (n ≡ None → ⊥) → number_of n ≡ accepted → ⊥
 number_refused n f e = f (number_accepted n e)
 
@@ -35,10 +35,6 @@ none_accepts n e = ap accepts e
 pub accepts_false : (n : Option Refusal) → accepts n ≡ false → n ≡ None → ⊥
 accepts_false n e i = true≢false (sym (none_accepts n i) ∙ e)
 
-pub refused_accepts : (n : Option Refusal) → (n ≡ None → ⊥) → accepts n ≡ false
-refused_accepts None f = absurd (f refl)
-refused_accepts (Some r) f = refl
-
--- a refusal is none of an accepted call
+-- an accepted call has no refusal
 pub some_refused : (r : Refusal) → Some r ≡ None → ⊥
 some_refused r = accepts_false (Some r) refl

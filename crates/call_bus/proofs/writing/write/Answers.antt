@@ -1,9 +1,6 @@
 -- A byte that joins the sequence still fits its count. Assumes nothing.
-use Rattle.std.proofs.Common.{arith, ap}
-use Rattle.record.specs.declared.HashProgress.{HashProgress}
 use Rattle.call_bus.proofs.BusLaws.{data_counted}
 use Rattle.call_bus.proofs.writing.write.Goals as goal
 
 pub launch_after-requires : goal.launch_after-requires
-launch_after-requires c =
-    λ joins. omega (arith, data_counted _ _ _ _ _ _ _ _ c.write_cycle-t.ensures.cycle joins, ap (λ (h : HashProgress). h.count) c.hash_progress.ensures)
+launch_after-requires c = λ joins. data_counted _ _ _ _ _ _ _ _ c.write_cycle-t.ensures.cycle joins
