@@ -6,8 +6,9 @@ use Rattle.std.specs.List.{prefix_len}
 use mathlib.Core.Logic.{◌⊎◌, inl, inr}
 use Prim.Native.Nat.{ℕ, zero, suc, ◌+◌, ◌*◌, ◌≤◌, ◌<◌, min}
 use native.Mathlib.Omega.{arith, min_cases}
-use lib.ListN.{length, get_or, take}
+use lib.ListN.{length, get_or, take, drop}
 use lib.Seq.{take-take, take_all}
+use Rattle.std.proofs.lemmas.List.{get_or-drop}
 use lib.Dec.{leb}
 use borrow.Author.Tests.{le-leb, lt-leb, leb-true, leb-false}
 use Rattle.capture.specs.declared.Cycle.{Cycle}
@@ -234,3 +235,10 @@ known_first (suc n) (k ∷ h ∷ l ∷ v ∷ rest) = by (leb k 3) (known_first n
         → cond t (1 + prefix_len known (take n (fours rest))) 0 ≡ min (suc n) (length (cond t (record { kind = k; offset = 256 * h + l; byte = v } ∷ sound rest) []))
     by true e = omega arith
     by false e = omega arith
+
+-- record i of a body is the first of what stands behind the i before it: what `cycle_of` gives of those bytes
+pub cycle_behind : (body : List ℕ) (i : ℕ) → cycle_at (drop (4 * i) body) 0 ≡ cycle_at body i
+unfolding cycle_at
+cycle_behind body i =
+    let z : 4 * i + 0 ≡ 4 * i = omega arith in
+    rw (get_or-drop (4 * i) body 0 0, get_or-drop (4 * i) body 1 0, get_or-drop (4 * i) body 2 0, get_or-drop (4 * i) body 3 0, z) refl
