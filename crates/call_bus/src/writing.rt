@@ -1,9 +1,11 @@
 // One write.
-ghost use Rattle.std.specs.Prelude.{◌≡◌, ◌≤◌, length};
+ghost use Rattle.std.specs.Prelude.{◌≡◌, ◌+◌, ◌<◌, ◌≤◌, ◌^◌, length};
 ghost use Rattle.reg_layout.specs.Offsets.{last_offset};
 ghost use Rattle.record.specs.Limits.{fifo_least, fifo_greatest};
-ghost use Rattle.record.specs.Record.{hash_progress};
+ghost use Rattle.record.specs.Record.{hash_progress, with_parts};
 ghost use Rattle.call_outcome.specs.Result.{Leaves};
+ghost use Rattle.bus_resolve.specs.declared.WriteKind.TheVariants.{HashData};
+ghost use Rattle.launch.specs.Launch.{launch_after, pcrs_after};
 ghost use Rattle.call_bus.specs.Bus.{refused_write, accepted_write, write_cycle, Cycled, write as write_spec};
 
 use crate::cycle_admission;
@@ -105,7 +107,22 @@ pub fn write_cycle(
     )
 }
 
-// A step of the hash sequence goes a way of its own, since the bank and the stream are left alone on the other.
+// What a step of the hash sequence leaves: a function of its own, so that no other write pays for its copies of the bank and of the stream.
+fn after_hash_step(t: WriteCycle, device: Device, byte: u8) -> Device
+    requires { t.kind ≡ HashData → device.launch.stream.count + 1 < 2 ^ 32 }
+    ensures { result ≡ with_parts device t.control t.phase (launch_after t.kind device.launch byte) (pcrs_after t.kind device.launch device.pcrs) }
+{
+    // a variable of its own: the borrow checker has no rule for an array field put straight into a literal
+    let identity = device.identity;
+    Device {
+        control: t.control,
+        phase: t.phase,
+        identity,
+        launch: launch_after(t.kind, device.launch, byte),
+        pcrs: pcrs_after(t.kind, device.launch, device.pcrs),
+    }
+}
+
 #[tactic(auto, using(launch::proofs::LaunchLaws::launch_left, launch::proofs::LaunchLaws::pcrs_left), unfolding(crate::specs::Bus::write))]
 pub fn write(
     device: Device,
@@ -118,17 +135,9 @@ pub fn write(
 {
     let t = write_cycle(&device, write_fifo, read_fifo, offset, byte);
     if hash_step(t.kind) {
-        // a variable of its own: the borrow checker has no rule for an array field put straight into a literal
-        let identity = device.identity;
         return Outcome {
             refusal: t.refusal,
-            device: Device {
-                control: t.control,
-                phase: t.phase,
-                identity,
-                launch: launch_after(t.kind, device.launch, byte),
-                pcrs: pcrs_after(t.kind, device.launch, device.pcrs),
-            },
+            device: after_hash_step(t, device, byte),
         };
     }
     Outcome {
