@@ -14,7 +14,7 @@ pub const LOCALITIES: u8 = 5;
 #[derive(Clone, Copy, PartialEq, Eq, Debug)]
 pub struct Locality(pub u8);
 
-// A locality that has a page.
+// A locality that has a page. It is built where the range is known: a TryFrom would put an Err where none can come.
 #[derive(Clone, Copy, PartialEq, Eq, Debug)]
 pub struct Page {
     pub locality: Locality,
@@ -29,7 +29,8 @@ impl Page {
     }
 }
 
-// The active locality, if the device is not free, which localities wait, and which were seized.
+// The active locality, if the device is not free, which localities wait, and which were seized: two arrays, as the paper has two sets. Their 5 is
+// LOCALITIES, which as a locality number is a u8.
 #[derive(Clone, Copy, PartialEq, Eq, Debug)]
 pub struct Arbiter {
     pub active: Option<Locality>,

@@ -11,7 +11,7 @@ use reg_layout::HASH_LOCALITY;
 pub fn next_owner(waiting: [bool; 5]) -> Option<Locality>
     ensures { result ≡ next_owner waiting }
 {
-    // A loop over the flags would need a cast of k and a bound on the sum, and be no shorter.
+    // The mask and its leading zeros are document 02's own form (W3), so no `rposition`; a loop over the flags would need a cast and a bound.
     let mask = flag_at(waiting[0], 0)
         + flag_at(waiting[1], 1)
         + flag_at(waiting[2], 2)

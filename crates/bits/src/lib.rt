@@ -4,7 +4,7 @@
 ghost use Rattle.std.specs.Prelude.{◌≡◌, ◌<◌, ◌≤◌, ◌^◌};
 ghost use Rattle.bits.specs.Bits.{bit as bit_spec, is_set, flag_at};
 
-// Bit k of v, as a number, so that set bits can be counted. That k is below 8 stays a `requires`: a caller's k is a constant, as in the paper.
+// Bit k of v, as a number. That k is below 8 stays a `requires`, the shift's own: a type for it would ask more of callers, whose k are constants.
 pub fn bit(v: u8, k: u8) -> u8
     requires { k < 8 }
     ensures { (result ≡ bit_spec k v) × (result ≤ 1) }

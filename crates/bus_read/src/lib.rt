@@ -55,7 +55,7 @@ fn unmoved(byte: u8, phase: Phase) -> RegisterRead
     RegisterRead { byte, phase }
 }
 
-// Only a FIFO read moves the phase on; `active` is whether x is the active locality.
+// Only a FIFO read moves the phase on; `active` is whether x is the active locality, asked once by the caller: the contract holds of either.
 #[tactic(auto, unfolding(crate::specs::Reading::register_read))]
 pub fn register_read(
     g: Register,

@@ -70,11 +70,7 @@ fn apply_change(control: Control, phase: Phase, change: Change) -> Effect
     if change.abort {
         return aborted(after);
     }
-    Effect {
-        control: after,
-        phase,
-        fifos: FifoAction::Keep,
-    }
+    ignored(after, phase)
 }
 
 // What a command bit, a FIFO write or an answer leaves.

@@ -31,7 +31,7 @@ pub fn lent_admission(v: ShapeView, l: Lengths) -> Result<(), Refusal>
 pub fn lent_admission_of(device: Device, l: Lengths) -> Result<(), Refusal>
     ensures { result_err result ≡ lent_refusal (view_of device) l }
 {
-    lent_admission(view_of(device), l)
+    lent_admission(view_of(&device), l)
 }
 
 // 2, 6, 1.

@@ -5,20 +5,20 @@ ghost use Rattle.record.specs.Limits.{fifo_least, fifo_greatest};
 ghost use Rattle.record.specs.Record.{hash_progress};
 ghost use Rattle.call_bus.specs.Bus.{accepted_read, read_cycle, read as read_spec};
 
-use crate::cycle_admission;
 use arbiter::Page;
 use arbiter::access::holds;
 use bus_read::register_read;
 use bus_resolve::page_at;
+use call_admission::bus_admission;
 use call_outcome::ReadOutcome;
 use record::{Control, Device, Phase};
-use record_shape::lengths_of;
+use record_shape::{lengths_of, view_of};
 use refusal::Refusal;
 use reg_layout::PAGE;
 use reg_map::register_at;
 use reg_sts_read::size::Sizes;
 
-// What a read comes to: of the record only the phase may change.
+// What a read comes to: of the record only the phase may change. The refusal stands beside, since a refused read has a byte too.
 #[derive(Clone, Copy)]
 pub struct ReadCycle {
     pub refusal: Option<Refusal>,
@@ -61,7 +61,7 @@ pub fn read_cycle(device: &Device, write_fifo: &[u8], read_fifo: &[u8], offset: 
     ensures { result ≡ read_cycle device.now.control device.now.phase (hash_progress device.now.launch) device.now.identity write_fifo.now read_fifo.now offset }
 {
     let lengths = lengths_of(write_fifo, read_fifo);
-    if let Err(refusal) = cycle_admission(device, lengths, offset) {
+    if let Err(refusal) = bus_admission(view_of(device), lengths, offset) {
         return ReadCycle {
             refusal: Some(refusal),
             byte: 0xff,

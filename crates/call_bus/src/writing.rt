@@ -8,20 +8,21 @@ ghost use Rattle.bus_resolve.specs.declared.WriteKind.TheVariants.{HashData};
 ghost use Rattle.launch.specs.Launch.{launch_after, pcrs_after};
 ghost use Rattle.call_bus.specs.Bus.{refused_write, accepted_write, write_cycle, Cycled, write as write_spec};
 
-use crate::cycle_admission;
 use arbiter::Page;
 use bus_resolve::{WriteKind, page_at, resolve};
 use bus_write::write_effect;
+use call_admission::bus_admission;
 use call_outcome::Outcome;
 use launch::{hash_step, launch_after, overlong, pcrs_after};
 use record::{Control, Device, Phase, hash_progress};
-use record_shape::lengths_of;
+use record_shape::{lengths_of, view_of};
 use refusal::Refusal;
 use reg_fifo::{FifoAction, update_fifos};
 use reg_sts_read::size::Sizes;
 use reg_sts_write::completion::BAD_SIZE;
 
-// What a write comes to but for the hash sequence and the PCRs, which its kind changes; the kind of a refused one is Ignored.
+// What a write comes to but for the hash sequence and the PCRs, which its kind changes; a refused one
+// leaves what it found, and its kind is Ignored, so that `write` puts either together in one way.
 #[derive(Clone, Copy)]
 pub struct WriteCycle {
     pub refusal: Option<Refusal>,
@@ -87,7 +88,7 @@ pub fn write_cycle(
     ensures { Cycled result write_fifo.old read_fifo.old byte write_fifo.new read_fifo.new (write_cycle device.now.control device.now.phase (hash_progress device.now.launch) write_fifo.old read_fifo.old offset byte) }
 {
     let lengths = lengths_of(write_fifo, read_fifo);
-    if let Err(refusal) = cycle_admission(device, lengths, offset) {
+    if let Err(refusal) = bus_admission(view_of(device), lengths, offset) {
         return refused_write(refusal, device.control, device.phase);
     }
     let at = offset as u16;

@@ -52,7 +52,7 @@ pub fn interrupt_line(device: Device) -> bool
 pub fn pcr_value(device: Device, index: PcrIndex) -> PcrOutcome
     ensures { result ≡ pcr_value device index.0 }
 {
-    match pcr_admission(view_of(device), index) {
+    match pcr_admission(view_of(&device), index) {
         Ok(()) => PcrOutcome {
             refusal: None,
             value: pcr::bank::value_at(device.pcrs, index),

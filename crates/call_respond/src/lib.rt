@@ -2,23 +2,21 @@
 #![tactic(auto)]
 
 ghost use Rattle.std.specs.Prelude.{◌≡◌, ◌<◌, ◌≤◌, length};
-ghost use Rattle.std.specs.Result.{result_err};
 ghost use Rattle.record.specs.Record.{hash_progress};
-ghost use Rattle.record_shape.specs.Shape.{view_of};
-ghost use Rattle.call_admission.specs.Refusals.{answer_refusal};
 ghost use Rattle.call_outcome.specs.Result.{Leaves};
 ghost use Rattle.call_respond.specs.Respond.{refused_answer, accepted_answer, answer_cycle, Answered, respond as respond_spec};
 
 use bus_write::apply_command;
 use call_admission::answer_admission;
 use call_outcome::Outcome;
-use record::{Control, Device, Phase, hash_progress};
-use record_shape::{Lengths, lengths_of, shape_view};
+use record::{Control, Device, Phase};
+use record_shape::{lengths_of, view_of};
 use refusal::Refusal;
 use reg_fifo::{FifoAction, update_fifos};
 use reg_sts_write::completion::enter_completion;
 
-// What an answer comes to; identity, hash sequence and PCRs stay. No type in common with a write's: that has a kind of write, too.
+// What an answer comes to; identity, hash sequence and PCRs stay. A refused one leaves what it found, so that `respond` puts either together in
+// one way. No type and no `refused_` function in common with a write's: that has a kind of write, too.
 #[derive(Clone, Copy)]
 pub struct AnswerCycle {
     pub refusal: Option<Refusal>,
@@ -59,13 +57,6 @@ fn accepted_answer(
 }
 
 // 2, 6, 3, 4.
-fn admission_for(device: &Device, lengths: Lengths, run: u32, length: usize) -> Result<(), Refusal>
-    ensures { result_err result ≡ answer_refusal (view_of device.now) lengths device.now.control.run run length }
-{
-    let view = shape_view(device.control, device.phase, hash_progress(device.launch));
-    answer_admission(view, lengths, device.control.run, run, length)
-}
-
 #[tactic(auto, unfolding(crate::specs::Respond::answer_cycle))]
 pub fn answer_cycle(
     device: &Device,
@@ -77,7 +68,9 @@ pub fn answer_cycle(
     ensures { Answered result write_fifo.old read_fifo.old answer.now write_fifo.new read_fifo.new (answer_cycle device.now.control device.now.phase (hash_progress device.now.launch) write_fifo.old read_fifo.old run answer.now) }
 {
     let lengths = lengths_of(write_fifo, read_fifo);
-    if let Err(refusal) = admission_for(device, lengths, run, answer.len()) {
+    let current = device.control.run;
+    let length = answer.len();
+    if let Err(refusal) = answer_admission(view_of(device), lengths, current, run, length) {
         return refused_answer(refusal, device.control, device.phase);
     }
     accepted_answer(device.control, write_fifo, read_fifo, answer)

@@ -13,6 +13,7 @@ pub mod records;
 
 use records::play_records;
 
+// What `Scanned` says, and the record then: `Plays` names the three.
 #[derive(Clone, Copy)]
 pub struct Played {
     pub cycles: usize,

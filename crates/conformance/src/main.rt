@@ -13,7 +13,7 @@ const STDIN_FILENO: i32 = 0;
 fn main(rt: HostRuntime) {
     let mut write_fifo = [0xff; LONGEST];
     let mut read_fifo = [0xff; LONGEST];
-    let mut sheet = io::large_buffer();
+    let mut sheet = [0; 65_536];
     // the kit's reader: std's `read_exact` does not say how much came, and its `read_to_end` needs a heap
     let n = io::read_full(STDIN_FILENO, &mut sheet);
     play(&rt, &mut write_fifo, &mut read_fifo, &sheet[..n]);

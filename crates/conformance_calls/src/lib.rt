@@ -16,7 +16,7 @@ use refusal::number_of;
 use std::iter::repeat_n;
 use tis::ReadOutcome;
 
-// The most bytes that a line lends, writes or reads: more than the greatest C, so that a length beyond it can be played.
+// The most bytes that a line lends, writes or reads: more than the greatest C, so that a length beyond it can be played; `replay_form` has its own.
 pub const LONGEST: usize = 9000;
 
 // The device on the bench, with the FIFOs that its calls are lent.

@@ -21,6 +21,7 @@ pub enum Kind {
     InterruptLine,
     Pcr,
     Permission,
+    // Kinds of line too: one does nothing, the other is shown as not understood.
     Heading,
     Unknown,
 }
@@ -73,9 +74,8 @@ pub fn byte(high: u8, low: u8) -> u8 {
 impl Step {
     pub fn parse(text: &[u8]) -> Step {
         let mut line = [b' '; WIDTH];
-        for (to, from) in line.iter_mut().zip(text) {
-            *to = *from;
-        }
+        let n = text.len().min(WIDTH);
+        line[..n].copy_from_slice(&text[..n]);
         Step {
             label: *line.first_chunk().unwrap(),
             kind: Kind::from(line[22]),

@@ -1,4 +1,4 @@
-// The guest: a driver in locality 0 that sends one command and reads its answer, cycle by cycle.
+// The guest: a driver in locality 0 that sends one command and reads its answer, cycle by cycle. It knows TIS, and no crate of ours.
 use crate::monitor::Monitor;
 
 const ACCESS: u64 = 0x0000;

@@ -6,7 +6,7 @@ ghost use Rattle.bus_resolve.specs.declared.WriteKind.TheVariants.{HashData};
 ghost use Rattle.launch.specs.Launch.{hash_step, overlong as overlong_spec, begun_launch, joined as joined_spec, launch_after, measured as measured_spec, pcrs_after};
 
 use bus_resolve::WriteKind;
-use pcr::{Pcr, PcrIndex};
+use pcr::{PCRS, Pcr, PcrIndex};
 use record::limits::HASH_LIMIT;
 use record::{Launch, closed_launch};
 use sha1_message::Stream;
@@ -14,7 +14,7 @@ use sha1_message::Stream;
 // The PCR that a launch is measured into.
 const LAUNCH_PCR: PcrIndex = PcrIndex(17);
 
-// Does the write change the sequence or a PCR.
+// Does the write change the sequence or a PCR. Refusal, sequence and PCRs each ask the kind by themselves, as their definitions do.
 pub fn hash_step(k: WriteKind) -> bool
     ensures { result ≡ hash_step k }
 {
@@ -63,7 +63,7 @@ pub fn launch_after(k: WriteKind, l: Launch, v: u8) -> Launch
     }
 }
 
-fn measured(bank: [Pcr; 24], l: Launch) -> [Pcr; 24]
+fn measured(bank: [Pcr; PCRS], l: Launch) -> [Pcr; PCRS]
     ensures { result ≡ measured_spec bank l }
 {
     let digest = l.stream.finish();
@@ -72,7 +72,7 @@ fn measured(bank: [Pcr; 24], l: Launch) -> [Pcr; 24]
 }
 
 #[tactic(auto, unfolding(crate::specs::Launch::pcrs_after))]
-pub fn pcrs_after(k: WriteKind, l: Launch, bank: [Pcr; 24]) -> [Pcr; 24]
+pub fn pcrs_after(k: WriteKind, l: Launch, bank: [Pcr; PCRS]) -> [Pcr; PCRS]
     ensures { result ≡ pcrs_after k l bank }
 {
     match k {

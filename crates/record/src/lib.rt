@@ -6,7 +6,7 @@ ghost use Rattle.record.specs.Record.{fresh_control, closed_launch, fresh_device
 ghost use Rattle.record.specs.Causes.{without, either, share};
 
 use arbiter::Arbiter;
-use pcr::Pcr;
+use pcr::{PCRS, Pcr};
 use sha1_message::Stream;
 
 pub mod limits;
@@ -21,7 +21,7 @@ pub enum Phase {
     Completion(u16, u16),
 }
 
-// One flag for each interrupt.
+// One flag for each interrupt. Methods with names and no operators: `&` and `|` of such sets would have to be looked up.
 #[derive(Clone, Copy, PartialEq, Eq, Debug)]
 pub struct Causes {
     pub command_ready: bool,
@@ -116,7 +116,7 @@ pub struct Device {
     pub phase: Phase,
     pub identity: [u8; 5],
     pub launch: Launch,
-    pub pcrs: [Pcr; 24],
+    pub pcrs: [Pcr; PCRS],
 }
 
 fn fresh_control(established: bool, run: u32) -> Control

@@ -45,8 +45,8 @@ pub fn shape_view(control: Control, phase: Phase, hash: HashProgress) -> ShapeVi
 }
 
 // The same of a whole record.
-pub fn view_of(device: Device) -> ShapeView
-    ensures { result ≡ view_of device }
+pub fn view_of(device: &Device) -> ShapeView
+    ensures { result ≡ view_of device.now }
 {
     shape_view(device.control, device.phase, hash_progress(device.launch))
 }

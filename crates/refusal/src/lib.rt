@@ -33,14 +33,6 @@ impl Refusal {
     }
 }
 
-impl From<Refusal> for u8 {
-    ghost from_gives = { λ r n. n ≡ number_spec r };
-
-    fn from(refusal: Refusal) -> u8 {
-        refusal.number()
-    }
-}
-
 impl fmt::Display for Refusal {
     fn fmt<W: fmt::Write>(&self, f: &mut fmt::Formatter<W>) -> fmt::Result {
         match self {

@@ -8,7 +8,8 @@ ghost use Rattle.reg_fifo.specs.Fifo.{clear_fifo, update_write_fifo, update_read
 use record::Phase;
 
 // What happens to the two FIFOs: nothing; both are cleared; the byte written goes to a place of the WriteFIFO; Completion is entered, so the
-// WriteFIFO is cleared and the ReadFIFO holds the answer.
+// WriteFIFO is cleared and the ReadFIFO holds the answer. Keep is an action like the others, and byte and answer go beside the action, as in the
+// definitions that the calls' contracts name (`Cycled`, `Answered`).
 #[derive(Clone, Copy)]
 pub enum FifoAction {
     Keep,
@@ -58,7 +59,7 @@ fn update_read_fifo(f: FifoAction, r: &mut [u8], a: &[u8])
     }
 }
 
-// What a call does to the FIFOs, with the byte that it writes or the answer that it gives.
+// What a call does to the FIFOs, with the byte that it writes or the answer that it gives. That the answer has room is what each caller knows.
 pub fn update_fifos(f: FifoAction, w: &mut [u8], r: &mut [u8], v: u8, a: &[u8])
     requires { length a.now ≤ length r.old }
     ensures { (w.new ≡ update_write_fifo f v w.old) × (r.new ≡ update_read_fifo f a.now r.old) }

@@ -8,7 +8,8 @@ use reg_layout::{
     ACCESS, DATA_FIFO, IDENTITY, INT_ENABLE, INT_STATUS, INT_VECTOR, INTF_CAPABILITY, STS,
 };
 
-// A register of a page; the number is the byte within it, low byte first. A read knows no others, so hash start and end are not here.
+// A register of a page; the number is the byte within it, low byte first. A read knows no others, so hash start and end are not here;
+// Reserved is a place that document 01 names, with rules of its own.
 #[derive(Clone, Copy, PartialEq, Eq, Debug)]
 pub enum Register {
     Access,

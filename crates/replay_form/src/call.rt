@@ -6,7 +6,7 @@ use crate::fault::Fault;
 use crate::fields::Fields;
 use crate::opcode::Opcode;
 
-// The bytes of a record's image.
+// The bytes of a record's image; that and all sizes here are docs/REPLAY.md's, and must not follow a record that changes.
 const IMAGE: usize = 603;
 
 // Its flags come first, one byte each.

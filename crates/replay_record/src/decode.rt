@@ -21,6 +21,7 @@ fn interrupts(image: &mut Fields<'_>) -> Interrupts {
     }
 }
 
+// The numbers are the image's (docs/REPLAY.md); `encode` has them the other way round.
 fn phase(image: &mut Fields<'_>) -> Phase {
     match (image.byte(), image.u16(), image.u16()) {
         (0, _, _) => Phase::Idle,

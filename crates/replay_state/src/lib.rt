@@ -8,7 +8,7 @@ use replay_form::opcode::Opcode;
 use replay_form::output::Output;
 use replay_record::State;
 
-// The call is made, and its outcome put.
+// The call is made, and its outcome put: the one switch on the opcode that acts; `Opcode` and `size` are tables of the form.
 pub fn play(s: &mut State, call: Call<'_>, out: &mut Output) {
     let args = Fields::new(call.arguments);
     match call.opcode {

@@ -66,7 +66,7 @@ impl Stream {
         }
     }
 
-    // The message with one byte more.
+    // The message with one byte more, by value, as the record goes (B-10).
     pub fn join(self, b: u8) -> Stream
         requires { self.count + 1 < 2 ^ 32 }
         ensures { result ≡ join_spec self b }

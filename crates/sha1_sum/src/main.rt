@@ -59,7 +59,7 @@ fn message(rt: &impl Print) -> Result<bool, Fault> {
     let Some(n) = next_length()? else {
         return Ok(false);
     };
-    let mut body = io::buffer();
+    let mut body = [0; 4096];
     sum(rt, &mut body[..n])?;
     Ok(true)
 }

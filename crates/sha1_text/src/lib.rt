@@ -4,6 +4,7 @@
 ghost use Rattle.std.specs.Prelude.{◌≡◌, ◌<◌};
 ghost use Rattle.sha1_text.specs.Text.{digit_of, pair_of, hex_of};
 
+// By hand, since the contract is `hex_of`; std's and the kit's digits are chars of a radix.
 fn digit(n: u8) -> u8
     requires { n < 16 }
     ensures { result ≡ digit_of n }

@@ -5,7 +5,7 @@ ghost use Rattle.std.specs.Prelude.{◌≤◌, ◌<◌, ◌≡◌, length};
 ghost use Rattle.text.specs.Text.{decimal, hex_digit, hex_byte};
 
 // Bytes that are lent, and how many of them are written, from the front on.
-// It is no `fmt::Write`: no writer can promise that `write!` gives no Err, of which nothing is known.
+// The place and no shrinking slice: `Puts` speaks of the place. It is no `fmt::Write`: no writer can promise that `write!` gives no Err, of which nothing is known.
 #[derive(Drop)]
 pub struct Page<'a> {
     pub lent: &'a mut [u8],
@@ -47,7 +47,7 @@ impl<'a> Page<'a> {
     }
 }
 
-// Upper case. `sha1_text` has one of its own, lower case: one function with the case as a parameter is no plainer.
+// Upper case; `sha1_text` has the lower case: the contracts of both name their digit.
 fn hex_digit(d: u8) -> u8
     requires { d < 16 }
     ensures { result ≡ hex_digit d }
