@@ -82,6 +82,7 @@ pub fn release(s: Arbiter, x: Page) -> Change
     keeps_command(s)
 }
 
+// Of a lower one alone, by the numbers as `Rules.seize_from` has it: an order of localities would serve this place only.
 #[tactic(auto, unfolding(crate::specs::Rules::seize, crate::specs::Rules::request))]
 pub fn seize(s: Arbiter, x: Page) -> Change
     ensures { result ≡ seize_spec s x.locality }

@@ -77,7 +77,8 @@ impl Bench<'_> {
         show_text(rt, s, refusals);
     }
 
-    // Free bytes from the line's byte on are written at the offset, as many as the line says, LONGEST at most.
+    // Free bytes from the line's byte on are written at the offset, as many as the line says, LONGEST at most. Here and below the room is the
+    // method's own: the bytes are lent from it, and there is no heap.
     pub fn fill(&mut self, rt: &impl Print, s: &Step) {
         let mut room = [0; LONGEST];
         let bytes = s.free_bytes(&mut room);
