@@ -74,8 +74,10 @@ pub fn byte(high: u8, low: u8) -> u8 {
 impl Step {
     pub fn parse(text: &[u8]) -> Step {
         let mut line = [b' '; WIDTH];
-        let n = text.len().min(WIDTH);
-        line[..n].copy_from_slice(&text[..n]);
+        // What is longer is cut. No copy_from_slice of a part: the line's length is lost to the proof of what is taken from it below.
+        for (to, from) in line.iter_mut().zip(text) {
+            *to = *from;
+        }
         Step {
             label: *line.first_chunk().unwrap(),
             kind: Kind::from(line[22]),
