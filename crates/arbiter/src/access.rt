@@ -4,7 +4,7 @@ ghost use Rattle.arbiter.specs.State.{any_waits, holds as holds_spec};
 ghost use Rattle.arbiter.specs.Rules.{keeps_command, access_command, request as request_spec, release as release_spec, seize as seize_spec, clear_seized, write_access};
 
 use crate::transfer::{handover, serve};
-use crate::{Arbiter, Change, Locality, Page, with_active, with_seized, with_waiting};
+use crate::{Arbiter, Change, LOCALITIES, Locality, Page, with_active, with_seized, with_waiting};
 use bits::is_set;
 use reg_layout::access::{ACTIVE_LOCALITY, BEEN_SEIZED, REQUEST_USE, SEIZE};
 
@@ -40,7 +40,7 @@ pub fn holds(o: Option<Locality>, x: Locality) -> bool
     o == Some(x)
 }
 
-pub fn any_waits(w: [bool; 5]) -> bool
+pub fn any_waits(w: [bool; LOCALITIES]) -> bool
     ensures { result ≡ any_waits w }
 {
     w.contains(&true)
@@ -82,14 +82,14 @@ pub fn release(s: Arbiter, x: Page) -> Change
     keeps_command(s)
 }
 
-// Of a lower one alone, by the numbers as `Rules.seize_from` has it: an order of localities would serve this place only.
+// Of a lower one alone.
 #[tactic(auto, unfolding(crate::specs::Rules::seize, crate::specs::Rules::request))]
 pub fn seize(s: Arbiter, x: Page) -> Change
     ensures { result ≡ seize_spec s x.locality }
 {
     match s.active {
         None => request(s, x),
-        Some(y) if y.0 < x.locality.0 => Change {
+        Some(y) if y < x.locality => Change {
             arbiter: with_seized(serve(s, x), Page { locality: y }, true),
             abort: true,
             locality_change: false,

@@ -8,10 +8,10 @@ pub mod access;
 pub mod transfer;
 
 // The localities are 0 to 4.
-pub const LOCALITIES: u8 = 5;
+pub const LOCALITIES: usize = 5;
 
 // A locality number; a page's is at most 4, and a stored one may be anything.
-#[derive(Clone, Copy, PartialEq, Eq, Debug)]
+#[derive(Clone, Copy, PartialEq, Eq, PartialOrd, Ord, Debug)]
 pub struct Locality(pub u8);
 
 // A locality that has a page. It is built where the range is known: a TryFrom would put an Err where none can come.
@@ -29,13 +29,12 @@ impl Page {
     }
 }
 
-// The active locality, if the device is not free, which localities wait, and which were seized: two arrays, as the paper has two sets. Their 5 is
-// LOCALITIES, which as a locality number is a u8.
+// The active locality, if the device is not free, which localities wait, and which were seized: two arrays, as the paper has two sets.
 #[derive(Clone, Copy, PartialEq, Eq, Debug)]
 pub struct Arbiter {
     pub active: Option<Locality>,
-    pub waiting: [bool; 5],
-    pub seized: [bool; 5],
+    pub waiting: [bool; LOCALITIES],
+    pub seized: [bool; LOCALITIES],
 }
 
 // What a rule leaves, and what follows from it: the owner's command is aborted, so both FIFOs are cleared and the phase is Idle (abort); a
@@ -53,8 +52,8 @@ pub fn fresh_arbiter() -> Arbiter
 {
     Arbiter {
         active: None,
-        waiting: [false; 5],
-        seized: [false; 5],
+        waiting: [false; LOCALITIES],
+        seized: [false; LOCALITIES],
     }
 }
 

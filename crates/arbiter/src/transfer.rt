@@ -2,13 +2,13 @@
 ghost use Rattle.std.specs.Prelude.{◌≡◌};
 ghost use Rattle.arbiter.specs.Rules.{next_owner, serve as serve_spec, handover as handover_spec, start_counts, hash_start};
 
-use crate::{Arbiter, Change, Locality, Page, with_active, with_waiting};
+use crate::{Arbiter, Change, LOCALITIES, Locality, Page, with_active, with_waiting};
 use bits::flag_at;
 use reg_layout::HASH_LOCALITY;
 
 // The highest locality that waits, or nobody. Flag k stands at bit k of the mask, whose highest set bit is number 7 less the zeros above it.
 #[tactic(auto, using(crate::proofs::WaitingMask::highest_waits))]
-pub fn next_owner(waiting: [bool; 5]) -> Option<Locality>
+pub fn next_owner(waiting: [bool; LOCALITIES]) -> Option<Locality>
     ensures { result ≡ next_owner waiting }
 {
     // The mask and its leading zeros are document 02's own form (W3), so no `rposition`; a loop over the flags would need a cast and a bound.
@@ -20,6 +20,7 @@ pub fn next_owner(waiting: [bool; 5]) -> Option<Locality>
     if mask == 0 {
         return None;
     }
+    // `as`, since std has no From that narrows, and a try_from would have an Err that cannot come.
     let zeros = mask.leading_zeros();
     Some(Locality((7 - zeros) as u8))
 }

@@ -4,7 +4,7 @@
 ghost use Rattle.std.specs.Prelude.{◌≡◌, ◌<◌, ◌≤◌, ◌^◌};
 ghost use Rattle.bits.specs.Bits.{bit as bit_spec, is_set, flag_at};
 
-// Bit k of v, as a number. That k is below 8 stays a `requires`, the shift's own: a type for it would ask more of callers, whose k are constants.
+// Bit k of v, as a number. That k is below 8 stays the shift's own `requires`: a type for it would be built at each of the calls, from a number that is at hand.
 pub fn bit(v: u8, k: u8) -> u8
     requires { k < 8 }
     ensures { (result ≡ bit_spec k v) × (result ≤ 1) }

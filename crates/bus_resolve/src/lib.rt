@@ -27,6 +27,7 @@ pub enum WriteKind {
 pub fn page_at(offset: u16) -> Locality
     ensures { (result ≡ page_at offset) × (result.0 ≡ page_of offset) }
 {
+    // `as`, since std has no From that narrows: a try_from would have an Err that cannot come, and a locality above 4 is none.
     Locality((offset / PAGE) as u8)
 }
 

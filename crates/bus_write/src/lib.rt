@@ -132,14 +132,11 @@ fn register_write(
 fn apply_interrupts(control: Control, phase: Phase, interrupts: Interrupts) -> Effect
     ensures { result ≡ apply_interrupts control phase interrupts }
 {
-    Effect {
-        control: Control {
-            interrupts,
-            ..control
-        },
-        phase,
-        fifos: FifoAction::Keep,
-    }
+    let control = Control {
+        interrupts,
+        ..control
+    };
+    ignored(control, phase)
 }
 
 #[tactic(auto, unfolding(crate::specs::Writing::write_effect))]

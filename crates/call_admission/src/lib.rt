@@ -1,8 +1,9 @@
 // The tests of each call, in document 01's order (document 01, 'When the front says no'): the first that fails is what the call is refused for.
 #![tactic(auto)]
 
-ghost use Rattle.std.specs.Prelude.{◌≡◌};
+ghost use Rattle.std.specs.Prelude.{◌≡◌, ◌≤◌, IfOk};
 ghost use Rattle.std.specs.Result.{result_err};
+ghost use Rattle.reg_layout.specs.Offsets.{last_offset};
 ghost use Rattle.record_shape.specs.Shape.{view_of};
 ghost use Rattle.call_admission.specs.Refusals.{lent_refusal, bus_refusal, executes as executes_spec, answer_refusal, pcr_refusal};
 
@@ -21,6 +22,7 @@ pub fn lent_admission(v: ShapeView, l: Lengths) -> Result<(), Refusal>
     if !lengths_allowed(l) {
         return Err(Refusal::FifoLength);
     }
+    // `as`, since std has no From that narrows: an allowed length fits (`allowed_fits`).
     if !in_shape(v, l.write as u16) {
         return Err(Refusal::Shape);
     }
@@ -34,16 +36,17 @@ pub fn lent_admission_of(device: Device, l: Lengths) -> Result<(), Refusal>
     lent_admission(view_of(&device), l)
 }
 
-// 2, 6, 1.
+// 2, 6, 1. An offset that is taken is given as the number of sixteen bits that it is.
 #[tactic(auto, unfolding(crate::specs::Refusals::bus_refusal))]
-pub fn bus_admission(v: ShapeView, l: Lengths, offset: u64) -> Result<(), Refusal>
-    ensures { result_err result ≡ bus_refusal v l offset }
+pub fn bus_admission(v: ShapeView, l: Lengths, offset: u64) -> Result<u16, Refusal>
+    ensures refusal { result_err result ≡ bus_refusal v l offset }
+    ensures taken { IfOk result (λ at. (at ≡ offset) × (at ≤ last_offset)) }
 {
     lent_admission(v, l)?;
-    if LAST_OFFSET < offset {
-        return Err(Refusal::Offset);
+    match u16::try_from(offset) {
+        Ok(at) if at <= LAST_OFFSET => Ok(at),
+        _ => Err(Refusal::Offset),
     }
-    Ok(())
 }
 
 fn executes(p: Phase) -> bool

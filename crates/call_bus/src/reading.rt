@@ -18,7 +18,8 @@ use reg_layout::PAGE;
 use reg_map::register_at;
 use reg_sts_read::size::Sizes;
 
-// What a read comes to: of the record only the phase may change. The refusal stands beside, since a refused read has a byte too.
+// What a read comes to: of the record only the phase may change. The refusal stands beside, since a refused read has a byte too. No
+// `RegisterRead` in it: that saves two lines, and byte and phase would lie one step deeper wherever they are named.
 #[derive(Clone, Copy)]
 pub struct ReadCycle {
     pub refusal: Option<Refusal>,
@@ -26,6 +27,7 @@ pub struct ReadCycle {
     pub phase: Phase,
 }
 
+// What it requires is what `bus_admission` has found; a type for that would serve this place and a write's alone.
 #[tactic(auto, unfolding(crate::specs::Bus::accepted_read))]
 fn accepted_read(
     offset: u16,
@@ -61,21 +63,21 @@ pub fn read_cycle(device: &Device, write_fifo: &[u8], read_fifo: &[u8], offset: 
     ensures { result ≡ read_cycle device.now.control device.now.phase (hash_progress device.now.launch) device.now.identity write_fifo.now read_fifo.now offset }
 {
     let lengths = lengths_of(write_fifo, read_fifo);
-    if let Err(refusal) = bus_admission(view_of(device), lengths, offset) {
-        return ReadCycle {
+    match bus_admission(view_of(device), lengths, offset) {
+        Ok(at) => accepted_read(
+            at,
+            device.control,
+            device.phase,
+            device.identity,
+            write_fifo,
+            read_fifo,
+        ),
+        Err(refusal) => ReadCycle {
             refusal: Some(refusal),
             byte: 0xff,
             phase: device.phase,
-        };
+        },
     }
-    accepted_read(
-        offset as u16,
-        device.control,
-        device.phase,
-        device.identity,
-        write_fifo,
-        read_fifo,
-    )
 }
 
 #[tactic(auto, unfolding(crate::specs::Bus::read))]

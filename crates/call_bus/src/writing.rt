@@ -22,7 +22,8 @@ use reg_sts_read::size::Sizes;
 use reg_sts_write::completion::BAD_SIZE;
 
 // What a write comes to but for the hash sequence and the PCRs, which its kind changes; a refused one
-// leaves what it found, and its kind is Ignored, so that `write` puts either together in one way.
+// leaves what it found, and its kind is Ignored, so that `write` puts either together in one way. No `Effect` in it: that saves
+// three lines, and control, phase and FIFOs would lie one step deeper wherever they are named.
 #[derive(Clone, Copy)]
 pub struct WriteCycle {
     pub refusal: Option<Refusal>,
@@ -44,6 +45,7 @@ fn refused_write(refusal: Refusal, control: Control, phase: Phase) -> WriteCycle
     }
 }
 
+// What it requires is what `bus_admission` has found, as of a read.
 #[tactic(auto, unfolding(crate::specs::Bus::accepted_write))]
 fn accepted_write(
     kind: WriteKind,
@@ -88,10 +90,10 @@ pub fn write_cycle(
     ensures { Cycled result write_fifo.old read_fifo.old byte write_fifo.new read_fifo.new (write_cycle device.now.control device.now.phase (hash_progress device.now.launch) write_fifo.old read_fifo.old offset byte) }
 {
     let lengths = lengths_of(write_fifo, read_fifo);
-    if let Err(refusal) = bus_admission(view_of(device), lengths, offset) {
-        return refused_write(refusal, device.control, device.phase);
-    }
-    let at = offset as u16;
+    let at = match bus_admission(view_of(device), lengths, offset) {
+        Ok(at) => at,
+        Err(refusal) => return refused_write(refusal, device.control, device.phase),
+    };
     let hash = hash_progress(device.launch);
     let kind = resolve(at, hash.sequence, device.control.arbiter.active);
     if overlong(kind, hash.count) {

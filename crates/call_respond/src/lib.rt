@@ -16,7 +16,7 @@ use reg_fifo::{FifoAction, update_fifos};
 use reg_sts_write::completion::enter_completion;
 
 // What an answer comes to; identity, hash sequence and PCRs stay. A refused one leaves what it found, so that `respond` puts either together in
-// one way. No type and no `refused_` function in common with a write's: that has a kind of write, too.
+// one way. No type and no `refused_` function in common with a write's: that has a kind of write, too. No `Effect` in it, as there.
 #[derive(Clone, Copy)]
 pub struct AnswerCycle {
     pub refusal: Option<Refusal>,
@@ -46,6 +46,7 @@ fn accepted_answer(
     requires { (length answer.now < 65536) × (length answer.now ≤ length read_fifo.old) }
     ensures { Answered result write_fifo.old read_fifo.old answer.now write_fifo.new read_fifo.new (accepted_answer control (length answer.now)) }
 {
+    // `as`, since std has no From that narrows; that the length fits is required.
     let e = apply_command(control, enter_completion(answer.len() as u16, control.run));
     update_fifos(e.fifos, write_fifo, read_fifo, 0, answer);
     AnswerCycle {

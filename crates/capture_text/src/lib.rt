@@ -47,6 +47,7 @@ fn put_cycles(page: &mut Page, n: usize)
     ensures { Gains page.old (cycles_text n) page.new }
 {
     page.put(b"cycles ");
+    // `as`, since std has no From that takes a usize.
     page.put_decimal(n as u64);
     page.put(b"\n");
 }

@@ -84,7 +84,7 @@ fn permission(masks: [u8; PCRS], p: PcrIndex, x: Locality) -> Permission
     if PCRS <= i {
         return REFUSED;
     }
-    if LOCALITIES <= x.0 {
+    if LOCALITIES <= usize::from(x.0) {
         return REFUSED;
     }
     Permission {

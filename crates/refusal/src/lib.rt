@@ -4,24 +4,18 @@
 ghost use Rattle.std.specs.Prelude.{◌≡◌};
 ghost use Rattle.refusal.specs.Refusal.{number as number_spec, number_of as number_of_spec};
 
+use std::error::Error;
 use std::fmt;
 
-// What the front says no to. A call that is accepted has no refusal.
+// What the front says no to; the table's words are what each displays as. A call that is accepted has no refusal.
 #[derive(Clone, Copy, Debug, PartialEq, Eq)]
 pub enum Refusal {
-    // 1: bus offset above 4FFFh
     Offset = 1,
-    // 2: a FIFO length outside 1,024..8,192, or the two differ
     FifoLength = 2,
-    // 3: engine answer while not in Execution, or with another run number
     Run = 3,
-    // 4: engine answer shorter than 10 or longer than C
     AnswerLength = 4,
-    // 5: question with PCR above 23 or locality above 4
     Question = 5,
-    // 6: record out of shape (the interrupt line question aside)
     Shape = 6,
-    // 7: hash byte number 1,048,577 or later
     HashLength = 7,
 }
 
@@ -29,6 +23,7 @@ impl Refusal {
     pub fn number(self) -> u8
         ensures { result ≡ number_spec self }
     {
+        // `as` is how a variant's number is had: no derive gives a From.
         self as u8
     }
 }
@@ -52,6 +47,8 @@ impl fmt::Display for Refusal {
         }
     }
 }
+
+impl Error for Refusal {}
 
 // A call's refusal number: 0 where it was accepted.
 pub fn number_of(refusal: Option<Refusal>) -> u8

@@ -59,7 +59,8 @@ fn update_read_fifo(f: FifoAction, r: &mut [u8], a: &[u8])
     }
 }
 
-// What a call does to the FIFOs, with the byte that it writes or the answer that it gives. That the answer has room is what each caller knows.
+// What a call does to the FIFOs, with the byte that it writes or the answer that it gives. That the answer has room is what each caller knows; a struct
+// of answer and ReadFIFO would have to say, besides, that its loans stay the same.
 pub fn update_fifos(f: FifoAction, w: &mut [u8], r: &mut [u8], v: u8, a: &[u8])
     requires { length a.now ≤ length r.old }
     ensures { (w.new ≡ update_write_fifo f v w.old) × (r.new ≡ update_read_fifo f a.now r.old) }

@@ -26,7 +26,7 @@ pub const IDENTITY: u16 = 0xf00;
 pub const PAGE: u16 = 0x1000;
 
 // The last byte of page 4.
-pub const LAST_OFFSET: u64 = 0x4fff;
+pub const LAST_OFFSET: u16 = 0x4fff;
 
 // The locality whose page takes a hash sequence.
 pub const HASH_LOCALITY: u8 = 4;

@@ -45,6 +45,7 @@ const IDENTITY_LAST: u16 = IDENTITY + 4;
 pub fn register_at(at: u16) -> Register
     ensures { result ≡ register_at at }
 {
+    // `as` here and below, since std has no From that narrows, and a try_from would have an Err that cannot come.
     let i = (at % 4) as u8;
     match at / 4 {
         ACCESS_FOUR if i == 0 => Register::Access,

@@ -27,6 +27,7 @@ impl Sizes {
         requires { (size_field ≤ length write_fifo.now) × (length write_fifo.now < 2 ^ 16) }
         ensures { result ≡ sizes_of write_fifo.now }
     {
+        // `as`, since std has no From that narrows; that the length fits is required.
         Sizes {
             declared: declared_size(write_fifo),
             fifo: write_fifo.len() as u16,

@@ -78,6 +78,7 @@ fn tpm_go_after(n: u16, run: u32, sizes: Sizes) -> Commanded
     if u32::from(HEADER) <= sizes.declared && sizes.declared <= u32::from(sizes.fifo) {
         return without_cause(Phase::Execution(n), run.wrapping_add(1), FifoAction::Keep);
     }
+    // `as`, since std has no From that narrows, and a try_from of ten would have an Err that cannot come.
     enter_completion(BAD_SIZE.len() as u16, run)
 }
 

@@ -42,6 +42,7 @@ impl<'a> Page<'a> {
         ensures { Gains self.old (decimal n) self.new }
     {
         let mut digits = [0; 20];
+        // The kit's, since nothing says which digits a `write!` of a number puts.
         let k = io::decimal(n, &mut digits);
         self.put(&digits[..k]);
     }
