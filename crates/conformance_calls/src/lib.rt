@@ -16,7 +16,8 @@ use refusal::number_of;
 use std::iter::repeat_n;
 use tis::ReadOutcome;
 
-// The most bytes that a line lends, writes or reads: more than the greatest C, so that a length beyond it can be played; `replay_form` has its own.
+// The most bytes that a line lends, writes or reads: more than the greatest C, so that a length beyond it can be played.
+// Not `replay_form`'s 9,000: that is part of the form of docs/REPLAY.md, this is the sheet's own, and one constant would tie the sheet to that form.
 pub const LONGEST: usize = 9000;
 
 // The device on the bench, with the FIFOs that its calls are lent.

@@ -4,7 +4,7 @@ ghost use Rattle.std.specs.Prelude.{◌<◌};
 // The characters of a line: a shorter one is filled with blanks, a longer one cut.
 const WIDTH: usize = 72;
 
-// What a line asks for, by its letter. A heading, or an empty line, has none.
+// What a line asks for, by its letter; a heading's, and an empty line's, is a blank.
 #[derive(Clone, Copy, PartialEq, Eq)]
 pub enum Kind {
     PowerOn,
@@ -21,13 +21,14 @@ pub enum Kind {
     InterruptLine,
     Pcr,
     Permission,
-    // Kinds of line too: one does nothing, the other is shown as not understood.
+    // The blank and every other letter are kinds too: one does nothing, the other is shown as not understood.
     Heading,
     Unknown,
 }
 
 impl From<u8> for Kind {
     fn from(letter: u8) -> Kind {
+        // Each letter is decoded here, once.
         match letter {
             b'p' => Kind::PowerOn,
             b'x' => Kind::Reset,
@@ -99,6 +100,7 @@ impl Step {
         ensures { result < 16777216 }
     {
         let [a, b, c, d, e, f, ..] = self.rest;
+        // `as`, which the check sees to lose no bit: std has no `From` of a u32 for usize.
         u32::from_be_bytes([0, byte(a, b), byte(c, d), byte(e, f)]) as usize
     }
 
