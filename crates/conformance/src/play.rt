@@ -1,27 +1,28 @@
 // Plays the lines of the sheet: each is a call of the register front and a line that shows what it gave.
 use conformance_calls::{Bench, permission, unknown};
-use conformance_lines::line::{Kind, Step};
+use conformance_lines::line::Kind;
+use conformance_lines::results::Line;
 use record::limits::FIFO_LEAST;
 
 // A heading, or an empty line, does nothing.
-fn take(rt: &impl Print, bench: &mut Bench<'_>, s: &Step) {
-    match s.kind {
-        Kind::PowerOn => bench.power_on(rt, s),
-        Kind::Reset => bench.reset(rt, s),
-        Kind::Write => bench.write(rt, s),
-        Kind::Text => bench.text(rt, s),
-        Kind::Fill => bench.fill(rt, s),
-        Kind::Read => bench.read(rt, s),
-        Kind::Drain => bench.drain(rt, s),
-        Kind::Respond => bench.respond(rt, s),
-        Kind::RespondFree => bench.respond_free(rt, s),
-        Kind::Window => bench.window(rt, s),
-        Kind::Run => bench.run(rt, s),
-        Kind::InterruptLine => bench.interrupt_line(rt, s),
-        Kind::Pcr => bench.pcr(rt, s),
-        Kind::Permission => permission(rt, s),
+fn take(bench: &mut Bench<'_>, line: &Line<'_, impl Print>) {
+    match line.step.kind {
+        Kind::PowerOn => bench.power_on(line),
+        Kind::Reset => bench.reset(line),
+        Kind::Write => bench.write(line),
+        Kind::Text => bench.text(line),
+        Kind::Fill => bench.fill(line),
+        Kind::Read => bench.read(line),
+        Kind::Drain => bench.drain(line),
+        Kind::Respond => bench.respond(line),
+        Kind::RespondFree => bench.respond_free(line),
+        Kind::Window => bench.window(line),
+        Kind::Run => bench.run(line),
+        Kind::InterruptLine => bench.interrupt_line(line),
+        Kind::Pcr => bench.pcr(line),
+        Kind::Permission => permission(line),
         Kind::Heading => {}
-        Kind::Unknown => unknown(rt, s),
+        Kind::Unknown => unknown(line),
     }
 }
 
@@ -30,10 +31,11 @@ fn take(rt: &impl Print, bench: &mut Bench<'_>, s: &Step) {
 pub fn play(rt: &impl Print, write_fifo: &mut [u8], read_fifo: &mut [u8], sheet: &[u8]) {
     let mut device = record::fresh_device(false, [0; 5], 0);
     let mut length = FIFO_LEAST;
-    for line in sheet.split(|c| *c == b'\n') {
-        let s = Step::parse(line);
-        if s.kind == Kind::PowerOn {
-            length = s.offset() as usize;
+    for text in sheet.split(|c| *c == b'\n') {
+        let line = Line::parse(rt, text);
+        // Asked before the match in `take`: a `Bench` lends slices, which must be cut to the length of a power-on line before its call.
+        if line.step.kind == Kind::PowerOn {
+            length = usize::from(line.step.offset());
         }
         let (n, m) = (length.min(write_fifo.len()), length.min(read_fifo.len()));
         let mut bench = Bench {
@@ -41,7 +43,7 @@ pub fn play(rt: &impl Print, write_fifo: &mut [u8], read_fifo: &mut [u8], sheet:
             write_fifo: &mut write_fifo[..n],
             read_fifo: &mut read_fifo[..m],
         };
-        take(rt, &mut bench, &s);
+        take(&mut bench, &line);
         device = bench.device;
     }
 }

@@ -89,10 +89,8 @@ impl Step {
         }
     }
 
-    pub fn offset(&self) -> u64
-        ensures { result < 65536 }
-    {
-        u64::from(u16::from_be_bytes([self.high, self.low]))
+    pub fn offset(&self) -> u16 {
+        u16::from_be_bytes([self.high, self.low])
     }
 
     // Six hexadecimal digits behind the byte: how many times.
@@ -100,7 +98,7 @@ impl Step {
         ensures { result < 16777216 }
     {
         let [a, b, c, d, e, f, ..] = self.rest;
-        // `as`, which the check sees to lose no bit: std has no `From` of a u32 for usize.
+        // `as`, since std has no `From` of a u32 for usize; the check sees that no bit is lost.
         u32::from_be_bytes([0, byte(a, b), byte(c, d), byte(e, f)]) as usize
     }
 
