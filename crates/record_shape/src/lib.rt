@@ -99,8 +99,10 @@ pub fn in_shape(v: ShapeView, c: u16) -> bool
             !any_waits(v.arbiter.waiting) & idle(v.phase) & !v.hash.sequence & (v.hash.count == 0)
         }
         Some(y) => {
+            // A variable of its own: an index into the view itself keeps all of the view in memory.
+            let waiting = v.arbiter.waiting;
             usize::from(y.0) < LOCALITIES
-                && !v.arbiter.waiting[usize::from(y.0)]
+                && !waiting[usize::from(y.0)]
                 && hash_fits(y.0, v.hash)
                 && phase_fits(v.phase, v.hash.sequence, c)
         }
