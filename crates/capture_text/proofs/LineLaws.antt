@@ -1,11 +1,13 @@
 -- The lines of the output, put one behind the other. Assumes nothing.
-use mathlib.Core.Path.{◌≡◌, refl}
+use mathlib.Core.Path.{◌≡◌, refl, ap, ◌∙◌}
 use mathlib.Core.List.{List, [], ◌∷◌, ◌++◌}
-use Prim.Native.Nat.{ℕ, ◌-◌, ◌≤◌, ◌<◌}
+use Prim.Native.Nat.{ℕ, zero, suc, ◌+◌, ◌*◌, ◌/◌, ◌≤◌, ◌<◌}
 use native.Mathlib.Omega.{arith}
 use lib.ListN.{length, get_or, take, drop, length-drop}
-use lib.Seq.{take_all}
 use Rattle.std.specs.Prelude.{Option}
+use Rattle.std.specs.Simd.{first_chunks}
+use Rattle.std.proofs.Common.{get_or-take}
+use Rattle.std.proofs.lemmas.List.{drop-drop}
 use Rattle.text.specs.declared.Page.{Page}
 use Rattle.text.specs.Text.{decimal, hex_byte}
 use Rattle.text.specs.Page.{Gains}
@@ -51,11 +53,25 @@ none_ahead [] s = refl
 none_ahead (x ∷ []) s = refl
 none_ahead (x ∷ y ∷ l) s = absurd (omega arith)
 
-module _ (p : Page) (answers : List ℕ) (q : Page) (left : List ℕ) (so_far : Ahead p answers q left) where
-  pub ahead_more : (q' : Page) → 2 ≤ length left → Gains q (line_of (get_or left 0 0) (get_or left 1 0)) q' → Ahead p answers q' (take (length left - 2) (drop 2 left))
-  ahead_more q' w g r h =
-      let all : take (length left - 2) (drop 2 left) ≡ drop 2 left = take_all (length left - 2) (drop 2 left) (simp length-drop (omega arith)) in
-      so_far r (rw (two_ahead left w) (gains_then q q' r (line_of (get_or left 0 0) (get_or left 1 0)) (lines_of (drop 2 left)) g (rw all at h)))
+-- the i-th of k records of two bytes
+record_at : (k i : ℕ) (l : List ℕ) → i < k → get_or (first_chunks 2 k l) i [] ≡ take 2 (drop (2 * i) l)
+record_at zero i l w = absurd (omega arith)
+record_at (suc k) zero l w = refl
+record_at (suc k) (suc i) l w = record_at k i (drop 2 l) (omega arith) ∙ ap (take 2) (drop-drop (2 * i) 2 l ∙ ap (λ (n : ℕ). drop n l) (omega arith))
 
-  pub ahead_none : length left < 2 → Gains p (lines_of answers) q
-  ahead_none s = so_far q (rw (none_ahead left s) (gains_nothing q))
+module _ (p : Page) (answers : List ℕ) (q : Page) (i : ℕ) (so_far : Ahead p answers q (drop (2 * i) answers)) where
+  -- the bytes that have no line yet
+  abbrev left : List ℕ
+  left = drop (2 * i) answers
+
+  pub ahead_more : (q' : Page) (part : List ℕ) → i < length answers / 2 → part ≡ get_or (first_chunks 2 (length answers / 2) answers) i []
+      → Gains q (line_of (get_or part 0 0) (get_or part 1 0)) q' → Ahead p answers q' (drop (2 * (i + 1)) answers)
+  ahead_more q' part w e g r h =
+      let is : part ≡ take 2 left = e ∙ record_at (length answers / 2) i answers w in
+      let first : get_or part 0 0 ≡ get_or left 0 0 = ap (λ (l : List ℕ). get_or l 0 0) is ∙ get_or-take 2 left 0 0 (omega arith) in
+      let second : get_or part 1 0 ≡ get_or left 1 0 = ap (λ (l : List ℕ). get_or l 1 0) is ∙ get_or-take 2 left 1 0 (omega arith) in
+      let behind : drop 2 left ≡ drop (2 * (i + 1)) answers = drop-drop 2 (2 * i) answers ∙ ap (λ (n : ℕ). drop n answers) (omega arith) in
+      so_far r (rw (two_ahead left (simp length-drop (omega arith)), behind, ← first, ← second) (gains_then q q' r _ _ g h))
+
+  pub ahead_none : length answers / 2 ≤ i → Gains p (lines_of answers) q
+  ahead_none w = so_far q (rw (none_ahead left (simp length-drop (omega arith))) (gains_nothing q))

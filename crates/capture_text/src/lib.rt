@@ -19,14 +19,12 @@ fn put_line(page: &mut Page, refusal: u8, byte: u8)
     page.put(b"\n");
 }
 
-// Two bytes of the answers make a line; `lines_of` takes them off the front in the same way, and `capture_play`'s `Plays` has them so (B-62).
+// Two bytes of the answers make a line; `capture_play`'s `Plays` has them so (B-62).
 fn put_lines(page: &mut Page, answers: &[u8])
     ensures { Gains page.old (lines_of answers.now) page.new }
 {
-    let mut left = answers;
-    while let [refusal, byte, rest @ ..] = left {
+    for [refusal, byte] in answers.as_chunks::<2>().0 {
         put_line(page, *refusal, *byte);
-        left = rest;
     }
 }
 
