@@ -1,5 +1,5 @@
 // The engine, made up: it knows TPM_ContinueSelfTest and answers every other command with TPM_BAD_ORDINAL. The front executes no command.
-const CONTINUE_SELF_TEST: u32 = 0x53;
+const CONTINUE_SELF_TEST: &[u8] = &[0x00, 0x00, 0x00, 0x53];
 
 const SUCCESS: u8 = 0x00;
 
@@ -7,12 +7,7 @@ const BAD_ORDINAL: u8 = 0x0a;
 
 // The ordinal stands behind tag and size; a command that runs has ten bytes at least.
 fn asks_self_test(command: &[u8]) -> bool {
-    match command {
-        [_, _, _, _, _, _, a, b, c, d, ..] => {
-            u32::from_be_bytes([*a, *b, *c, *d]) == CONTINUE_SELF_TEST
-        }
-        _ => false,
-    }
+    command.get(6..10) == Some(CONTINUE_SELF_TEST)
 }
 
 // Tag, size and return code.

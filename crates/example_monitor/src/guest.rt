@@ -19,45 +19,66 @@ const TPM_GO: u8 = 0x20;
 // TPM_ContinueSelfTest: tag, size, ordinal.
 const COMMAND: [u8; 10] = [0x00, 0xc1, 0x00, 0x00, 0x00, 0x0a, 0x00, 0x00, 0x00, 0x53];
 
-// It asks for the device and looks whether it has it.
-pub fn acquire(rt: &impl Print, monitor: &mut Monitor) {
-    monitor.read(rt, ACCESS);
-    monitor.write(rt, ACCESS, REQUEST_USE);
-    monitor.read(rt, ACCESS);
+// A driver on a monitor's bus; each of its cycles is printed by rt.
+#[derive(Drop)]
+pub struct Guest<'a, R> {
+    rt: &'a R,
+    monitor: &'a mut Monitor,
 }
 
-// commandReady: the device takes a command now.
-pub fn ready(rt: &impl Print, monitor: &mut Monitor) {
-    monitor.write(rt, STS, COMMAND_READY);
-    monitor.read(rt, STS);
-}
-
-// The command, byte by byte.
-pub fn send(rt: &impl Print, monitor: &mut Monitor) {
-    for byte in COMMAND {
-        monitor.write(rt, FIFO, byte);
+impl<'a, R: Print> Guest<'a, R> {
+    pub fn new(rt: &'a R, monitor: &'a mut Monitor) -> Guest<'a, R> {
+        Guest { rt, monitor }
     }
-}
 
-// tpmGo, where nothing more is expected.
-pub fn go(rt: &impl Print, monitor: &mut Monitor) {
-    monitor.read(rt, STS);
-    monitor.write(rt, STS, TPM_GO);
-    monitor.read(rt, STS);
-}
-
-// The ten bytes of the answer, between two looks at dataAvail.
-pub fn answer(rt: &impl Print, monitor: &mut Monitor) {
-    monitor.read(rt, STS);
-    for _ in 0..10 {
-        monitor.read(rt, FIFO);
+    fn write(&mut self, offset: u64, byte: u8) {
+        self.monitor.write(self.rt, offset, byte);
     }
-    monitor.read(rt, STS);
-}
 
-// commandReady once more drops the answer; activeLocality gives the device up.
-pub fn release(rt: &impl Print, monitor: &mut Monitor) {
-    monitor.write(rt, STS, COMMAND_READY);
-    monitor.write(rt, ACCESS, ACTIVE_LOCALITY);
-    monitor.read(rt, ACCESS);
+    fn read(&mut self, offset: u64) {
+        self.monitor.read(self.rt, offset);
+    }
+
+    // It asks for the device and looks whether it has it.
+    pub fn acquire(&mut self) {
+        self.read(ACCESS);
+        self.write(ACCESS, REQUEST_USE);
+        self.read(ACCESS);
+    }
+
+    // commandReady: the device takes a command now.
+    pub fn ready(&mut self) {
+        self.write(STS, COMMAND_READY);
+        self.read(STS);
+    }
+
+    // The command, byte by byte.
+    pub fn send(&mut self) {
+        for byte in COMMAND {
+            self.write(FIFO, byte);
+        }
+    }
+
+    // tpmGo, where nothing more is expected.
+    pub fn go(&mut self) {
+        self.read(STS);
+        self.write(STS, TPM_GO);
+        self.read(STS);
+    }
+
+    // The ten bytes of the answer, between two looks at dataAvail.
+    pub fn answer(&mut self) {
+        self.read(STS);
+        for _ in 0..10 {
+            self.read(FIFO);
+        }
+        self.read(STS);
+    }
+
+    // commandReady once more drops the answer; activeLocality gives the device up.
+    pub fn release(&mut self) {
+        self.write(STS, COMMAND_READY);
+        self.write(ACCESS, ACTIVE_LOCALITY);
+        self.read(ACCESS);
+    }
 }

@@ -7,6 +7,7 @@ mod guest;
 mod monitor;
 mod print;
 
+use guest::Guest;
 use monitor::Monitor;
 
 // C, the bytes of each FIFO: any number from 1,024 to 8,192.
@@ -15,39 +16,31 @@ const FIFO_BYTES: usize = 1024;
 fn main(rt: HostRuntime) {
     print::line(&rt, "The monitor powers the device on.");
     let mut monitor = Monitor::power_on(&rt);
-    request(&rt, &mut monitor);
+    let mut guest = Guest::new(&rt, &mut monitor);
+    print::line(
+        &rt,
+        "The guest asks for the device in locality 0, and has it: ACCESS reads a1.",
+    );
+    guest.acquire();
+    print::line(
+        &rt,
+        "It writes commandReady, then a command of ten bytes, then tpmGo.",
+    );
+    guest.ready();
+    guest.send();
+    guest.go();
     print::line(
         &rt,
         "The engine has work: the command is in the window, and its answer goes back.",
     );
     monitor.serve(&rt);
-    finish(&rt, &mut monitor);
-}
-
-// The guest asks for the device and sends a command.
-fn request(rt: &impl Print, monitor: &mut Monitor) {
+    let mut guest = Guest::new(&rt, &mut monitor);
     print::line(
-        rt,
-        "The guest asks for the device in locality 0, and has it: ACCESS reads a1.",
-    );
-    guest::acquire(rt, monitor);
-    print::line(
-        rt,
-        "It writes commandReady, then a command of ten bytes, then tpmGo.",
-    );
-    guest::ready(rt, monitor);
-    guest::send(rt, monitor);
-    guest::go(rt, monitor);
-}
-
-// It reads the answer and gives the device up; then the engine's answer comes once more, and is refused.
-fn finish(rt: &impl Print, monitor: &mut Monitor) {
-    print::line(
-        rt,
+        &rt,
         "The guest sees dataAvail in STS, reads the answer and gives the device up.",
     );
-    guest::answer(rt, monitor);
-    guest::release(rt, monitor);
-    print::line(rt, "An answer that comes too late is refused.");
-    monitor.late_answer(rt);
+    guest.answer();
+    guest.release();
+    print::line(&rt, "An answer that comes too late is refused.");
+    monitor.late_answer(&rt);
 }

@@ -36,14 +36,18 @@ impl Monitor {
             byte,
         );
         self.device = o.device;
-        print::cycle(rt, "write", offset, byte, o.refusal);
+        print::call(rt, format_args!("write {offset:04x} {byte:02x}"), o.refusal);
     }
 
     // And so is one that it reads.
     pub fn read(&mut self, rt: &impl Print, offset: u64) {
         let o = tis::read(self.device, &self.write_fifo, &self.read_fifo, offset);
         self.device = o.device;
-        print::cycle(rt, "read ", offset, o.byte, o.refusal);
+        print::call(
+            rt,
+            format_args!("read  {offset:04x} {:02x}", o.byte),
+            o.refusal,
+        );
     }
 
     // After a cycle the monitor looks whether the engine has work: in Execution alone.
@@ -56,7 +60,11 @@ impl Monitor {
     // The command is what the window shows.
     fn answer(&mut self, rt: &impl Print) {
         let shown = tis::window(self.device, &self.write_fifo, &self.read_fifo);
-        print::bytes(rt, "window ", shown.bytes, shown.refusal);
+        print::call(
+            rt,
+            format_args!("window {}", print::Bytes(shown.bytes)),
+            shown.refusal,
+        );
         let answer = engine::answer(shown.bytes);
         self.respond(rt, &answer);
     }
@@ -72,7 +80,11 @@ impl Monitor {
             answer,
         );
         self.device = o.device;
-        print::bytes(rt, "respond", answer, o.refusal);
+        print::call(
+            rt,
+            format_args!("respond{}", print::Bytes(answer)),
+            o.refusal,
+        );
     }
 
     // An answer to a run that has ended is refused as 3.
