@@ -128,7 +128,7 @@ fn after_hash_step(t: WriteCycle, device: Device, byte: u8) -> Device
 
 #[tactic(auto, using(launch::proofs::LaunchLaws::launch_left, launch::proofs::LaunchLaws::pcrs_left), unfolding(crate::specs::Bus::write))]
 pub fn write(
-    device: Device,
+    mut device: Device,
     write_fifo: &mut [u8],
     read_fifo: &mut [u8],
     offset: u64,
@@ -138,17 +138,13 @@ pub fn write(
 {
     let t = write_cycle(&device, write_fifo, read_fifo, offset, byte);
     if hash_step(t.kind) {
-        return Outcome {
-            refusal: t.refusal,
-            device: after_hash_step(t, device, byte),
-        };
+        device = after_hash_step(t, device, byte);
+    } else {
+        device.control = t.control;
+        device.phase = t.phase;
     }
     Outcome {
         refusal: t.refusal,
-        device: Device {
-            control: t.control,
-            phase: t.phase,
-            ..device
-        },
+        device,
     }
 }
