@@ -18,6 +18,7 @@ impl Output {
         }
     }
 
+    // By the kit's `io`: a write that a signal interrupts is one that failed, as always here, and std's `write_all` would try it again.
     pub fn flush(&mut self) -> Result<(), Fault> {
         let written = io::write_all(STDOUT_FILENO, self.bytes.as_slice());
         self.bytes.clear();
@@ -37,10 +38,10 @@ impl Output {
         let _ = self.bytes.try_extend_from_slice(part);
     }
 
-    // The length of a part of a FIFO, which has no more than 9,000 bytes.
+    // The length of a part of a FIFO, which has no more than 9,000 bytes: the two low bytes of the number.
     pub fn put_length(&mut self, part: &[u8]) {
-        let length = part.len().min(LONGEST) as u16;
-        self.put(&length.to_le_bytes());
+        let length = part.len().min(LONGEST).to_le_bytes();
+        self.put(&length[..2]);
     }
 
     pub fn put_flags<const N: usize>(&mut self, flags: [bool; N]) {
