@@ -1,4 +1,5 @@
 // What stands in a call's arguments, read one field after the other, numbers low byte first.
+use std::array;
 
 // The bytes that are not yet read. Where too few are left a field reads 0 or no byte, and so does each after it: no caller shows that there
 // are enough.
@@ -61,10 +62,6 @@ impl<'a> Fields<'a> {
     }
 
     pub fn flags<const N: usize>(&mut self) -> [bool; N] {
-        let mut flags = [false; N];
-        for flag in flags.iter_mut() {
-            *flag = self.flag();
-        }
-        flags
+        array::from_fn(|_| self.flag())
     }
 }

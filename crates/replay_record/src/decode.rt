@@ -4,6 +4,7 @@ use pcr::{PCRS, Pcr};
 use record::{Causes, Control, Device, Interrupts, Launch, Phase};
 use replay_form::fields::Fields;
 use sha1_message::Stream;
+use std::array;
 
 fn causes(image: &mut Fields<'_>) -> Causes {
     Causes {
@@ -33,23 +34,17 @@ fn phase(image: &mut Fields<'_>) -> Phase {
 }
 
 fn stream(image: &mut Fields<'_>) -> Stream {
-    let mut h = [0; 5];
-    for word in h.iter_mut() {
-        *word = image.u32();
-    }
     Stream {
-        h,
+        h: array::from_fn(|_| image.u32()),
         tail: image.take(),
         count: image.u32(),
     }
 }
 
 fn bank(image: &mut Fields<'_>) -> [Pcr; PCRS] {
-    let mut bank = [Pcr { bytes: [0; 20] }; PCRS];
-    for pcr in bank.iter_mut() {
-        pcr.bytes = image.take();
-    }
-    bank
+    array::from_fn(|_| Pcr {
+        bytes: image.take(),
+    })
 }
 
 pub fn device_from(image: &mut Fields<'_>) -> Device {
