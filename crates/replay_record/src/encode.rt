@@ -3,18 +3,22 @@ use record::{Causes, Device, Interrupts, Phase};
 use replay_form::output::Output;
 use sha1_message::Stream;
 
-fn put_causes(out: &mut Output, c: Causes) {
-    out.put_flags([c.command_ready, c.locality_change, c.data_avail]);
+fn put_causes(out: &mut Output, causes: Causes) {
+    out.put_flags([
+        causes.command_ready,
+        causes.locality_change,
+        causes.data_avail,
+    ]);
 }
 
-fn put_interrupts(out: &mut Output, i: Interrupts) {
-    out.put_flags([i.global]);
-    put_causes(out, i.enable);
-    put_causes(out, i.status);
+fn put_interrupts(out: &mut Output, interrupts: Interrupts) {
+    out.put_flags([interrupts.global]);
+    put_causes(out, interrupts.enable);
+    put_causes(out, interrupts.status);
 }
 
-fn put_phase(out: &mut Output, p: Phase) {
-    let (kind, n, k) = match p {
+fn put_phase(out: &mut Output, phase: Phase) {
+    let (kind, n, k) = match phase {
         Phase::Idle => (0, 0, 0),
         Phase::Ready => (1, 0, 0),
         Phase::Reception(n) => (2, n, 0),
@@ -26,27 +30,28 @@ fn put_phase(out: &mut Output, p: Phase) {
     out.put(&k.to_le_bytes());
 }
 
-fn put_stream(out: &mut Output, s: Stream) {
-    for word in &s.h {
+fn put_stream(out: &mut Output, stream: Stream) {
+    for word in &stream.h {
         out.put(&word.to_le_bytes());
     }
-    out.put(&s.tail);
-    out.put(&s.count.to_le_bytes());
+    out.put(&stream.tail);
+    out.put(&stream.count.to_le_bytes());
 }
 
-pub fn put_device(out: &mut Output, d: Device) {
-    let k = d.control;
-    out.put_flags([k.arbiter.active.is_some()]);
-    out.put_flags(k.arbiter.waiting);
-    out.put_flags(k.arbiter.seized);
-    put_interrupts(out, k.interrupts);
-    out.put_flags([k.established, d.launch.sequence]);
-    out.put(&[k.arbiter.active.map_or(0, |x| x.0)]);
-    put_phase(out, d.phase);
-    out.put(&d.identity);
-    out.put(&k.run.to_le_bytes());
-    put_stream(out, d.launch.stream);
-    for pcr in &d.pcrs {
+pub fn put_device(out: &mut Output, device: Device) {
+    let control = device.control;
+    let arbiter = control.arbiter;
+    out.put_flags([arbiter.active.is_some()]);
+    out.put_flags(arbiter.waiting);
+    out.put_flags(arbiter.seized);
+    put_interrupts(out, control.interrupts);
+    out.put_flags([control.established, device.launch.sequence]);
+    out.put(&[arbiter.active.map_or(0, |locality| locality.0)]);
+    put_phase(out, device.phase);
+    out.put(&device.identity);
+    out.put(&control.run.to_le_bytes());
+    put_stream(out, device.launch.stream);
+    for pcr in &device.pcrs {
         out.put(&pcr.bytes);
     }
 }
