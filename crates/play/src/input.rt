@@ -8,7 +8,8 @@ use std::io::{self, Read, Stdin};
 // The head, the records within the limit, and the one byte more by which bytes remain: no case needs another.
 pub const CAPTURE_BYTES: usize = 40_006;
 
-// Until the bytes decide, the input ends, or there is no room, by reads of what comes: how many came. A read that fails before they decide is an error.
+// Reads until the bytes decide, the input ends, or there is no room: how many came. A read that fails before they decide is an error.
+// A `while`, since how many bytes come is known only after each read, and those so far decide whether there is another.
 pub fn read_capture(mut stdin: Stdin, capture: &mut [u8]) -> io::Result<usize>
     ensures { IfOk result (λ n. n ≤ length capture.new) }
 {

@@ -1,4 +1,5 @@
 // One function for each opcode: it takes the arguments, makes the call and puts the outcome.
+// The output stays a parameter beside the state, as a writer does in std: a struct of both would lend the record to a question by `&mut`, too.
 #![tactic(auto)]
 
 use refusal::{Refusal, number_of};

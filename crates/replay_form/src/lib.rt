@@ -9,6 +9,7 @@ pub mod opcode;
 pub mod output;
 
 // The greatest length of an answer and of a FIFO: above the greatest C, so that lengths beyond it are played too.
+// It belongs to docs/REPLAY.md's form: the bench sheet's 9,000 is that sheet's own, and neither follows the other.
 pub const LONGEST: usize = 9000;
 
 // The bytes of the input's buffer, and of the output's.

@@ -20,21 +20,22 @@ pub enum Opcode {
 impl TryFrom<u8> for Opcode {
     type Error = Fault;
 
+    // docs/REPLAY.md's letters, each decoded here, once: what follows goes by the enum.
     fn try_from(byte: u8) -> Result<Opcode, Fault> {
-        match byte {
-            b'P' => Ok(Opcode::PowerOn),
-            b'Z' => Ok(Opcode::Reset),
-            b'R' => Ok(Opcode::Read),
-            b'W' => Ok(Opcode::Write),
-            b'A' => Ok(Opcode::Respond),
-            b'V' => Ok(Opcode::PcrValue),
-            b'L' => Ok(Opcode::InterruptLine),
-            b'C' => Ok(Opcode::MayReset),
-            b'E' => Ok(Opcode::MayExtend),
-            b'M' => Ok(Opcode::Window),
-            b'S' => Ok(Opcode::Load),
-            b'D' => Ok(Opcode::Dump),
-            _ => Err(Fault::Unknown),
-        }
+        Ok(match byte {
+            b'P' => Opcode::PowerOn,
+            b'Z' => Opcode::Reset,
+            b'R' => Opcode::Read,
+            b'W' => Opcode::Write,
+            b'A' => Opcode::Respond,
+            b'V' => Opcode::PcrValue,
+            b'L' => Opcode::InterruptLine,
+            b'C' => Opcode::MayReset,
+            b'E' => Opcode::MayExtend,
+            b'M' => Opcode::Window,
+            b'S' => Opcode::Load,
+            b'D' => Opcode::Dump,
+            _ => return Err(Fault::Unknown),
+        })
     }
 }
