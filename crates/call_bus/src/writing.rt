@@ -110,20 +110,13 @@ pub fn write_cycle(
     )
 }
 
-// What a step of the hash sequence leaves: a function of its own, so that no other write pays for its copies of the bank and of the stream.
-fn after_hash_step(t: WriteCycle, device: Device, byte: u8) -> Device
-    requires { t.kind ≡ HashData → device.launch.stream.count + 1 < 2 ^ 32 }
-    ensures { result ≡ with_parts device t.control t.phase (launch_after t.kind device.launch byte) (pcrs_after t.kind device.launch device.pcrs) }
+// A step of the hash sequence: a function of its own, so that no other write pays for its copies of the bank and of the stream.
+fn take_hash_step(device: &mut Device, kind: WriteKind, byte: u8)
+    requires { kind ≡ HashData → device.old.launch.stream.count + 1 < 2 ^ 32 }
+    ensures { device.new ≡ with_parts device.old device.old.control device.old.phase (launch_after kind device.old.launch byte) (pcrs_after kind device.old.launch device.old.pcrs) }
 {
-    // a variable of its own: the borrow checker has no rule for an array field put straight into a literal
-    let identity = device.identity;
-    Device {
-        control: t.control,
-        phase: t.phase,
-        identity,
-        launch: launch_after(t.kind, device.launch, byte),
-        pcrs: pcrs_after(t.kind, device.launch, device.pcrs),
-    }
+    device.pcrs = pcrs_after(kind, device.launch, device.pcrs);
+    device.launch = launch_after(kind, device.launch, byte);
 }
 
 #[tactic(auto, using(launch::proofs::LaunchLaws::launch_left, launch::proofs::LaunchLaws::pcrs_left), unfolding(crate::specs::Bus::write))]
@@ -137,11 +130,10 @@ pub fn write(
     ensures { Leaves result write_fifo.new read_fifo.new (write_spec device write_fifo.old read_fifo.old offset byte) }
 {
     let t = write_cycle(&device, write_fifo, read_fifo, offset, byte);
+    device.control = t.control;
+    device.phase = t.phase;
     if hash_step(t.kind) {
-        device = after_hash_step(t, device, byte);
-    } else {
-        device.control = t.control;
-        device.phase = t.phase;
+        take_hash_step(&mut device, t.kind, byte);
     }
     Outcome {
         refusal: t.refusal,
