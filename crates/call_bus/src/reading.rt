@@ -81,16 +81,14 @@ pub fn read_cycle(device: &Device, write_fifo: &[u8], read_fifo: &[u8], offset: 
 }
 
 #[tactic(auto, unfolding(crate::specs::Bus::read))]
-pub fn read(device: Device, write_fifo: &[u8], read_fifo: &[u8], offset: u64) -> ReadOutcome
+pub fn read(mut device: Device, write_fifo: &[u8], read_fifo: &[u8], offset: u64) -> ReadOutcome
     ensures { result ≡ read_spec device write_fifo.now read_fifo.now offset }
 {
     let t = read_cycle(&device, write_fifo, read_fifo, offset);
+    device.phase = t.phase;
     ReadOutcome {
         refusal: t.refusal,
         byte: t.byte,
-        device: Device {
-            phase: t.phase,
-            ..device
-        },
+        device,
     }
 }

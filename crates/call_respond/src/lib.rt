@@ -79,7 +79,7 @@ pub fn answer_cycle(
 
 #[tactic(auto, unfolding(crate::specs::Respond::respond))]
 pub fn respond(
-    device: Device,
+    mut device: Device,
     write_fifo: &mut [u8],
     read_fifo: &mut [u8],
     run: u32,
@@ -88,12 +88,10 @@ pub fn respond(
     ensures { Leaves result write_fifo.new read_fifo.new (respond_spec device write_fifo.old read_fifo.old run answer.now) }
 {
     let t = answer_cycle(&device, write_fifo, read_fifo, run, answer);
+    device.control = t.control;
+    device.phase = t.phase;
     Outcome {
         refusal: t.refusal,
-        device: Device {
-            control: t.control,
-            phase: t.phase,
-            ..device
-        },
+        device,
     }
 }
