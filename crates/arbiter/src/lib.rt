@@ -14,7 +14,8 @@ pub const LOCALITIES: usize = 5;
 #[derive(Clone, Copy, PartialEq, Eq, PartialOrd, Ord, Debug)]
 pub struct Locality(pub u8);
 
-// A locality that has a page. It is built where the range is known: a TryFrom would put an Err where none can come.
+// A locality that has a page. It is built where the range is known, and tested in `pcr::table::permission` alone: a TryFrom would put an Err where
+// else none can come.
 #[derive(Clone, Copy, PartialEq, Eq, Debug)]
 pub struct Page {
     pub locality: Locality,
@@ -29,7 +30,8 @@ impl Page {
     }
 }
 
-// The active locality, if the device is not free, which localities wait, and which were seized: two arrays, as the paper has two sets.
+// The active locality, if the device is not free, which localities wait, and which were seized: two arrays, since `any_waits` and `next_owner` take
+// one. The rules are functions of it and a page under the names of their definitions; methods would be the same with a dot.
 #[derive(Clone, Copy, PartialEq, Eq, Debug)]
 pub struct Arbiter {
     pub active: Option<Locality>,
@@ -38,7 +40,8 @@ pub struct Arbiter {
 }
 
 // What a rule leaves, and what follows from it: the owner's command is aborted, so both FIFOs are cleared and the phase is Idle (abort); a
-// handover served a waiting locality, so localityChange is set in INT_STATUS (locality_change).
+// handover served a waiting locality, so localityChange is set in INT_STATUS (locality_change). Two flags, since the effects of a write ask each by
+// itself.
 #[derive(Clone, Copy, PartialEq, Eq, Debug)]
 pub struct Change {
     pub arbiter: Arbiter,

@@ -11,7 +11,7 @@ use reg_layout::HASH_LOCALITY;
 pub fn next_owner(waiting: [bool; LOCALITIES]) -> Option<Locality>
     ensures { result ≡ next_owner waiting }
 {
-    // The mask and its leading zeros are document 02's own form (W3), so no `rposition`; a loop over the flags would need a cast and a bound.
+    // The mask and its leading zeros are document 02's own form (W3), so no `rposition`; the five lines are the sum of which `highest_waits` speaks.
     let mask = flag_at(waiting[0], 0)
         + flag_at(waiting[1], 1)
         + flag_at(waiting[2], 2)

@@ -55,7 +55,8 @@ fn unmoved(byte: u8, phase: Phase) -> RegisterRead
     RegisterRead { byte, phase }
 }
 
-// Only a FIFO read moves the phase on; `active` is whether x is the active locality, asked once by the caller: the contract holds of either.
+// Only a FIFO read moves the phase on; `active` is whether x is the active locality, asked once by the caller: the contract holds of either. The
+// parts, and no `&Device`, as in the definition: a read of a register knows no PCR.
 #[tactic(auto, unfolding(crate::specs::Reading::register_read))]
 pub fn register_read(
     g: Register,

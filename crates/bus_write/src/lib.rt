@@ -17,7 +17,7 @@ use reg_sts_read::size::Sizes;
 use reg_sts_write::Commanded;
 use reg_sts_write::sts::{write_data_fifo, write_sts};
 
-// What a write leaves of control and phase, and what happens to the FIFOs.
+// What a write or an answer leaves of control and phase, and what happens to the FIFOs.
 // The rules take control and phase as two, as `Device` has them: a read changes the phase alone, and no rule here sees the rest.
 #[derive(Clone, Copy)]
 pub struct Effect {

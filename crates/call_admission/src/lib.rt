@@ -4,13 +4,12 @@
 ghost use Rattle.std.specs.Prelude.{◌≡◌, ◌≤◌, IfOk};
 ghost use Rattle.std.specs.Result.{result_err};
 ghost use Rattle.reg_layout.specs.Offsets.{last_offset};
-ghost use Rattle.record_shape.specs.Shape.{view_of};
 ghost use Rattle.call_admission.specs.Refusals.{lent_refusal, bus_refusal, executes as executes_spec, answer_refusal, pcr_refusal};
 
 use pcr::{PCRS, PcrIndex};
+use record::Phase;
 use record::limits::{FIFO_GREATEST, HEADER};
-use record::{Device, Phase};
-use record_shape::{Lengths, ShapeView, in_shape, lengths_allowed, view_of};
+use record_shape::{Lengths, ShapeView, in_shape, lengths_allowed};
 use refusal::Refusal;
 use reg_layout::LAST_OFFSET;
 
@@ -27,13 +26,6 @@ pub fn lent_admission(v: ShapeView, l: Lengths) -> Result<(), Refusal>
         return Err(Refusal::Shape);
     }
     Ok(())
-}
-
-// The same, of a whole record.
-pub fn lent_admission_of(device: Device, l: Lengths) -> Result<(), Refusal>
-    ensures { result_err result ≡ lent_refusal (view_of device) l }
-{
-    lent_admission(view_of(&device), l)
 }
 
 // 2, 6, 1. An offset that is taken is given as the number of sixteen bits that it is.

@@ -1,5 +1,5 @@
-// Bus cycles: one read, one write. Each is decided on the record behind a reference, and the record is put into the outcome at one place, so
-// that no PCR is copied on the way.
+// Bus cycles: one read, one write. Each is decided on the record behind a reference, and what it leaves is put into the record that was given, so
+// that no PCR is copied on the way of a cycle that takes no hash step.
 #![tactic(auto)]
 
 pub mod reading;

@@ -4,10 +4,10 @@
 ghost use Rattle.call_outcome.specs.Result.{Leaves};
 ghost use Rattle.call_power.specs.Power.{power_on, reset as reset_spec};
 
-use call_admission::lent_admission_of;
+use call_admission::lent_admission;
 use call_outcome::Outcome;
 use record::{Device, fresh_device};
-use record_shape::{lengths_allowed, lengths_of};
+use record_shape::{lengths_allowed, lengths_of, view_of};
 use refusal::Refusal;
 use reg_fifo::clear_fifo;
 
@@ -39,7 +39,7 @@ pub fn power_on(
 pub fn reset(device: Device, write_fifo: &mut [u8], read_fifo: &mut [u8]) -> Outcome
     ensures { Leaves result write_fifo.new read_fifo.new (reset_spec device write_fifo.old read_fifo.old) }
 {
-    if let Err(refusal) = lent_admission_of(device, lengths_of(write_fifo, read_fifo)) {
+    if let Err(refusal) = lent_admission(view_of(&device), lengths_of(write_fifo, read_fifo)) {
         return Outcome {
             refusal: Some(refusal),
             device,

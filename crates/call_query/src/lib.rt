@@ -7,7 +7,7 @@ ghost use Rattle.call_admission.specs.Refusals.{lent_refusal_of};
 ghost use Rattle.call_query.specs.Query.{pcr_value, interrupt_line, span_in, window_span, Window};
 
 use arbiter::Locality;
-use call_admission::{lent_admission_of, pcr_admission};
+use call_admission::{lent_admission, pcr_admission};
 use pcr::{PcrIndex, Permission};
 use record::{Device, Phase};
 use record_shape::{lengths_of, view_of};
@@ -81,7 +81,7 @@ pub fn window<'a>(device: Device, write_fifo: &'a [u8], read_fifo: &'a [u8]) -> 
     ensures window { Window (window_span device write_fifo.now read_fifo.now) write_fifo.entry read_fifo.entry result.bytes }
     ensures refusal { result.refusal ≡ lent_refusal_of device write_fifo.now read_fifo.now }
 {
-    if let Err(refused) = lent_admission_of(device, lengths_of(write_fifo, read_fifo)) {
+    if let Err(refused) = lent_admission(view_of(&device), lengths_of(write_fifo, read_fifo)) {
         return WindowOutcome {
             refusal: Some(refused),
             bytes: &write_fifo[..0],

@@ -2,20 +2,17 @@
 use mathlib.Core.Path.{◌≡◌, ap, ◌∙◌}
 use mathlib.Core.Bool.{Bool, true, false, not}
 use mathlib.Core.List.{List}
-use Prim.Native.Nat.{ℕ, ◌*◌, ◌-◌, ◌≤◌, ◌<◌}
+use Prim.Native.Nat.{ℕ, ◌≤◌, ◌<◌}
 use native.Mathlib.Omega.{arith}
-use lib.ListN.{length, take, drop, length-drop}
+use lib.ListN.{length, take, drop}
 use lib.Dec.{eqb}
 use borrow.Author.Tests.{lt-ltb, le-ltb}
 use Rattle.std.specs.Prelude.{Option, Some}
 use Rattle.std.specs.Cmp.Lexicographic.{pointwise}
 use Rattle.capture.specs.declared.Word.{Word}
 use Rattle.capture.specs.declared.Word.TheVariants.{BadHead}
-use Rattle.capture.specs.Capture.{head, records, before_bad_kind, count_of, word_for, word_of, count, word, ends, settled}
+use Rattle.capture.specs.Capture.{head, records, before_bad_kind, count_of, word_of, count, word, ends, settled}
 use Rattle.capture.proofs.HeadLaws.{good_is, no_body, body_there, goes}
-
-pub body_word : (limit : ℕ) (body : List ℕ) (n : ℕ) (w : Option Word) → n ≡ count_of limit body → w ≡ word_for limit n (length body - 4 * n) → w ≡ word_of limit body
-body_word limit body n w e q = q ∙ rw (← length-drop (4 * n) body, e)
 
 module _ (limit : ℕ) (capture : List ℕ) where
   module _ (bad : pointwise eqb (take 5 capture) head ≡ false) where

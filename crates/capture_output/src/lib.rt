@@ -12,7 +12,7 @@ use capture_text::put_text;
 pub const CYCLE_LIMIT: usize = 10_000;
 
 // Two bytes for each.
-const ANSWER_BYTES: usize = 20_000;
+const ANSWER_BYTES: usize = 2 * CYCLE_LIMIT;
 
 // C.
 const FIFO_BYTES: usize = 1024;

@@ -1,5 +1,5 @@
 -- Records played one after the other. Assumes nothing.
-use mathlib.Core.Path.{◌≡◌, refl, sym, ap, subst, ◌∙◌}
+use mathlib.Core.Path.{◌≡◌, refl, sym, ap, ◌∙◌}
 use mathlib.Core.Bool.{Bool}
 use mathlib.Core.List.{List, [], ◌∷◌, ◌++◌, map}
 use Prim.Native.Nat.{ℕ, zero, suc, ◌*◌, ◌≤◌, ◌<◌}
@@ -21,7 +21,6 @@ use Rattle.text.proofs.PutLaws.{gains_nothing, gains_then}
 use Rattle.capture.specs.Capture.{body_of, cycle_at, records, played, count, word}
 use Rattle.capture.proofs.RecordLaws.{counted, records_whole, records_extend, played_first}
 use Rattle.claims.specs.Calls.{Call, State, state, called, left, after, heard}
-use Rattle.capture_play.specs.declared.Played.{Played}
 use Rattle.capture_call.specs.Call.{call_of, shown_byte, Gives}
 use Rattle.capture_play.specs.Play.{calls_of, shown, cycles_in, powered, Plays, Turns, calls_in, first_calls, Runs}
 
@@ -60,9 +59,6 @@ few (k ∷ h ∷ l ∷ v ∷ rest) (suc n) s = omega (arith, few rest n (omega a
 pub record Ahead (p₀ : Page) (s₀ : State) (body : List ℕ) (p : Page) (s : State) (bytes : List ℕ) : Type 0 where
   pub answers : (q : Page) → Gains p (shown (heard s (calls_in bytes))) q → Gains p₀ (shown (heard s₀ (calls_in body))) q
   pub left : after s (calls_in bytes) ≡ after s₀ (calls_in body)
-
-pub ahead_all : (p : Page) (s : State) (body bytes : List ℕ) → bytes ≡ body → Ahead p s body p s bytes
-ahead_all p s body bytes e = rw e (record { answers = λ q g. g; left = refl })
 
 module _ (p₀ : Page) (s₀ : State) (body : List ℕ) (p : Page) (d : Device) (w r bytes : List ℕ) (so_far : Ahead p₀ s₀ body p (state d w r) bytes) where
   -- one call more
@@ -139,7 +135,3 @@ pub powered_on_lem : (established : Bool) (identity w r : List ℕ) (o : Outcome
     → state o.device w' r' ≡ powered established identity w r
 unfolding powered
 powered_on_lem established identity w r o w' r' p = rw (p.device, p.write_fifo, p.read_fifo) refl
-
-pub played_from : (p : Played) (a w r : List ℕ) (s t : State) (limit : ℕ) (capture lent : List ℕ) → Plays p a w r s limit capture lent → s ≡ t
-    → Plays p a w r t limit capture lent
-played_from p a w r s t limit capture lent q e = subst (λ (z : State). Plays p a w r z limit capture lent) e q

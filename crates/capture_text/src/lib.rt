@@ -50,7 +50,7 @@ fn put_cycles(page: &mut Page, n: usize)
     page.put(b"\n");
 }
 
-// A bad head stands alone.
+// A bad head stands alone. Word and number stay two here and below, as `text_of` takes them.
 #[tactic(auto, unfolding(crate::specs::Lines::last_text), using(text::proofs::PutLaws::gains_nothing))]
 fn put_last(page: &mut Page, word: Option<Word>, n: usize)
     ensures { Gains page.old (last_text word n) page.new }

@@ -7,7 +7,7 @@ use arbiter::{LOCALITIES, Locality, Page};
 use bits::is_set;
 use refusal::Refusal;
 
-// Locality k is bit k of a mask, so that a table keeps TIS Table 4's form, one entry to a PCR.
+// Document 01 names the form ('Code places and language forms'): a table of 24 masks for each question, in which locality k is bit k.
 const RESET_LOCALITIES: [u8; PCRS] = [
     0b00000, // 0
     0b00000, // 1
@@ -68,7 +68,7 @@ const REFUSED: Permission = Permission {
     allowed: false,
 };
 
-// Public, since a mask need not come from these tables.
+// Public, with a contract for any mask: what a bit says is not the tables' affair.
 pub fn in_mask(mask: u8, x: Page) -> bool
     ensures { result ≡ in_mask mask x.locality.0 }
 {

@@ -20,6 +20,7 @@ pub enum Refusal {
 }
 
 impl Refusal {
+    // A method and no From: README and the programs name it, and a call's own number is `number_of`.
     pub fn number(self) -> u8
         ensures { result ≡ number_spec self }
     {
@@ -30,21 +31,15 @@ impl Refusal {
 
 impl fmt::Display for Refusal {
     fn fmt<W: fmt::Write>(&self, f: &mut fmt::Formatter<W>) -> fmt::Result {
-        match self {
-            Refusal::Offset => write!(f, "bus offset above 4FFFh"),
-            Refusal::FifoLength => write!(
-                f,
-                "a FIFO length outside 1,024..8,192, or the two differ"
-            ),
-            Refusal::Run => write!(
-                f,
-                "engine answer while not in Execution, or with another run number"
-            ),
-            Refusal::AnswerLength => write!(f, "engine answer shorter than 10 or longer than C"),
-            Refusal::Question => write!(f, "question with PCR above 23 or locality above 4"),
-            Refusal::Shape => write!(f, "record out of shape (the interrupt line question aside)"),
-            Refusal::HashLength => write!(f, "hash byte number 1,048,577 or later"),
-        }
+        f.write_str(match self {
+            Refusal::Offset => "bus offset above 4FFFh",
+            Refusal::FifoLength => "a FIFO length outside 1,024..8,192, or the two differ",
+            Refusal::Run => "engine answer while not in Execution, or with another run number",
+            Refusal::AnswerLength => "engine answer shorter than 10 or longer than C",
+            Refusal::Question => "question with PCR above 23 or locality above 4",
+            Refusal::Shape => "record out of shape (the interrupt line question aside)",
+            Refusal::HashLength => "hash byte number 1,048,577 or later",
+        })
     }
 }
 

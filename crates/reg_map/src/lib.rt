@@ -38,6 +38,7 @@ const STS_FOUR: u16 = STS / 4;
 
 const DATA_FIFO_FOUR: u16 = DATA_FIFO / 4;
 
+// The last of IDENTITY's five bytes.
 const IDENTITY_LAST: u16 = IDENTITY + 4;
 
 // ACCESS and INT_VECTOR have the first byte of their four, STS the first three; what is left of a four is reserved, as all else is.

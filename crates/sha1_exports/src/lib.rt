@@ -18,7 +18,8 @@ fn by_byte(m: &[u8]) -> [u8; 20]
     s.finish()
 }
 
-// The digest of m goes into out. A bool, as C has it of both exports: answers false, and leaves out alone, where out has not 20 bytes or m has as many as the limit.
+// The digest of m goes into out. A bool, as C has it of both exports: answers false, and leaves out alone, where out has not 20 bytes or m has as
+// many as the limit.
 #[tactic(auto, unfolding(crate::specs::Exports::accepts, crate::specs::Exports::digest_in))]
 fn digest_into<F: Fn(&[u8]) -> [u8; 20]>(limit: usize, digest: F, m: &[u8], out: &mut [u8]) -> bool
     requires callable { length m.now < limit → F.pre digest m }

@@ -8,8 +8,8 @@ mod streaming;
 pub use oneshot::{extend, hash};
 pub use streaming::join_lent;
 
-// No invariant says that the count may grow: a lent record may hold any stream (`launch::overlong` refuses in time).
 // A message as far as it came: the hash value after its whole blocks, the bytes behind them with 00h after them, and how many bytes in all.
+// No invariant says that the count may grow: a lent record may hold any stream (`launch::overlong` refuses in time).
 #[derive(Clone, Copy, PartialEq, Eq, Debug)]
 pub struct Stream {
     pub h: [u32; 5],

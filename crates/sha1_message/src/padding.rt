@@ -24,14 +24,13 @@ fn digest(h: [u32; 5]) -> [u8; 20]
 }
 
 // The length in bits goes into the last eight bytes.
-fn with_length(block: [u8; 64], n: u64) -> [u8; 64]
+fn with_length(mut block: [u8; 64], n: u64) -> [u8; 64]
     requires { n < 2 ^ 61 }
     ensures { result ≡ with_length block n }
 {
     let bits = n * 8;
-    let mut t = block;
-    t[56..].copy_from_slice(&bits.to_be_bytes());
-    t
+    block[56..].copy_from_slice(&bits.to_be_bytes());
+    block
 }
 
 // The first n bytes of the tail, and the mark behind them.

@@ -67,13 +67,12 @@ impl Stream {
     }
 
     // The message with one byte more, by value, as the record goes (B-10).
-    pub fn join(self, b: u8) -> Stream
+    pub fn join(mut self, b: u8) -> Stream
         requires { self.count + 1 < 2 ^ 32 }
         ensures { result ≡ join_spec self b }
     {
-        let mut s = self;
-        s.push(b);
-        s
+        self.push(b);
+        self
     }
 
     // The digest of the bytes that joined.

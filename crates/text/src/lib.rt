@@ -5,7 +5,8 @@ ghost use Rattle.std.specs.Prelude.{◌≤◌, ◌<◌, ◌≡◌, length};
 ghost use Rattle.text.specs.Text.{decimal, hex_digit, hex_byte};
 
 // Bytes that are lent, and how many of them are written, from the front on.
-// The place and no shrinking slice: `Puts` speaks of the place. It is no `fmt::Write`: no writer can promise that `write!` gives no Err, of which nothing is known.
+// The place and no shrinking slice: `Puts` speaks of the place. It is no `fmt::Write`: no writer can promise that `write!` gives no Err, of which
+// nothing is known.
 #[derive(Drop)]
 pub struct Page<'a> {
     pub lent: &'a mut [u8],
@@ -53,5 +54,5 @@ fn hex_digit(d: u8) -> u8
     requires { d < 16 }
     ensures { result ≡ hex_digit d }
 {
-    if d < 10 { 48 + d } else { 55 + d }
+    if d < 10 { b'0' + d } else { b'A' + (d - 10) }
 }

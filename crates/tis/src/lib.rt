@@ -1,4 +1,4 @@
-// The public calls of the register front. Each tests what it is handed and answers as document 01 names; none has a `requires`.
+// The public calls of the register front. Each tests what document 01 has it test and answers as the paper names; none has a `requires`.
 // The two FIFOs stay two slices, lent anew at each call: a struct of both would have to say in each contract that its loans stay the same, as
 // `text::Page` does, which two parameters say by being what they are.
 #![tactic(auto)]

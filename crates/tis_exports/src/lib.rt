@@ -11,8 +11,8 @@ struct Turn {
     sum: u64,
 }
 
-// Four bytes each, as the benchmark writes them: 0 reads, 1 writes, anything else answers; the offset, high byte first; the byte written. The calls stand in the loop,
-// since a function between would copy the record once more.
+// Four bytes each, as the benchmark writes them: 0 reads, 1 writes, anything else answers; the offset, high byte first; the byte written. The calls
+// stand in the loop, since a function between would copy the record once more.
 fn once(turn: Turn, w: &mut [u8], r: &mut [u8], script: &[u8], answer: &[u8]) -> Turn {
     let Turn {
         mut device,
