@@ -12,8 +12,7 @@ fn bytes(word: u32) -> [u8; 4]
     word.to_be_bytes()
 }
 
-// The five words as bytes. `sha1_text::hex` joins its pairs so too: one function of both would take three sizes, of which no type says that two make
-// the third.
+// The five words as bytes.
 fn digest(h: [u32; 5]) -> [u8; 20]
     ensures { result ≡ digest_of h }
 {

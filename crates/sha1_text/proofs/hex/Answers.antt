@@ -1,21 +1,40 @@
--- The pairs of digits stand one after the other. Assumes nothing.
-use Rattle.std.proofs.Common.{◌≡◌, ℕ, suc, ◌<◌, List, [], ◌∷◌, length, get_or, refl, ◌∙◌, arith, rules}
-use Rattle.std.proofs.lemmas.List.Concat.{flat_map-cons}
-use Rattle.std.specs.List.{flat_map}
-use Rattle.sha1_text.specs.Text.{pair_of, hex_of}
+-- The kit's table of digits gives the digits of `hex_of`. Assumes nothing.
+use Rattle.std.proofs.Common.{◌≡◌, ℕ, zero, suc, ◌<◌, ◌/◌, ◌%◌, ◌==◌, Bool, true, ◌&&◌, List, [], ◌∷◌, length, slice_index, Result, Ok, Err, refl, ◌∙◌, inl, inr, arith, rules}
+use Rattle.std.proofs.lemmas.Bool.{and_parts, cases_lt, eqb-true}
+use Rattle.std.specs.Prelude.{IsOk, OnOk}
+use Rattle.hex.specs.Hex.{encode_lower, encode_with, lower_digits, IsBytes}
+use Rattle.sha1_text.specs.Text.{digit_of, hex_of}
 use Rattle.sha1_text.proofs.hex.Goals as goal
 
-pairs_joined : (d : List ℕ) (pairs : List (List ℕ)) → length pairs ≡ length d
-    → ((i : ℕ) → i < length d → get_or pairs i [] ≡ pair_of (get_or d i 0)) → flat_map (λ x. x) pairs ≡ hex_of d
-pairs_joined [] [] k e = refl
-pairs_joined [] (p ∷ ps) k e = absurd (omega arith)
-pairs_joined (b ∷ d) [] k e = absurd (omega arith)
-pairs_joined (b ∷ d) (p ∷ ps) k e =
-    rw (flat_map-cons {X = List ℕ} {A = ℕ} (λ x. x) p ps, e 0 (omega arith), pairs_joined d ps (omega arith) (λ i l. e (suc i) (omega arith))) refl
+-- the first n digits of the table, compared
+abbrev same_digits : ℕ → Bool
+same_digits zero = true
+same_digits (suc n) = slice_index lower_digits n == digit_of n && same_digits n
+
+same_digit : (n d : ℕ) → same_digits n ≡ true → d < n → slice_index lower_digits d ≡ digit_of d
+same_digit zero d h lt = absurd (omega arith)
+same_digit (suc n) d h lt =
+    let parts = and_parts (slice_index lower_digits n == digit_of n) (same_digits n) h in
+    elim (cases_lt d n) [
+      | inl below ↦ same_digit n d parts.1 below
+      | inr top ↦
+          let e : d ≡ n = omega arith in
+          rw e (eqb-true (slice_index lower_digits n) (digit_of n) parts.0)
+    ]
+
+same_text : (m : List ℕ) → IsBytes m → encode_lower m ≡ hex_of m
+unfolding encode_with
+same_text [] h = refl
+same_text (b ∷ m) h =
+    let byte = h 0 in
+    rw (same_digit 16 (b / 16) refl (omega (arith, byte)), same_digit 16 (b % 16) refl (omega arith), same_text m (λ i. h (suc i))) refl
+
+on_ok : {T E P : Type 0} (r : Result T E) → IsOk r → OnOk r P → P
+on_ok (Ok x) ok p = p
+on_ok (Err e) ok p = search (rules, ok)
 
 pub returns : goal.returns
 returns c =
     let n : length c.args.digest ≡ 20 = search rules in
-    let items = c.map-pairs.ensures.items in
-    c.copy_from_slice.ensures.after ∙ c.as_flattened.ensures.value
-    ∙ pairs_joined c.args.digest c.map-pairs.result (omega (arith, items.long)) (λ i l. let called = items.at i 0 [] (omega arith) in search rules)
+    on_ok c.encode_to_slice.result (c.encode_to_slice.ensures.fits.1 (omega (arith, n))) c.encode_to_slice.ensures.written
+    ∙ same_text c.args.digest (search rules)
