@@ -3,12 +3,16 @@
 
 ghost use Rattle.std.specs.Prelude.{◌≤◌, ⊤, length, IfOk, MatchOption};
 
+use std::error::Error;
 use std::fmt;
 
 const STDIN_FILENO: i32 = 0;
 
+// The longest message, in bytes; `Fault::TooLong` says the number too.
+const LONGEST: usize = 4096;
+
 // What ends a run before its input does.
-#[derive(Clone, Copy)]
+#[derive(Clone, Copy, Debug, PartialEq, Eq)]
 enum Fault {
     Truncated,
     TooLong,
@@ -23,9 +27,11 @@ impl fmt::Display for Fault {
     }
 }
 
+impl Error for Fault {}
+
 // The length of the next message, and None where the input ends. std's read_exact would not tell that end from half a length.
 fn next_length() -> Result<Option<usize>, Fault>
-    ensures { IfOk result (λ o. MatchOption o ⊤ (λ n. n ≤ 4096)) }
+    ensures { IfOk result (λ o. MatchOption o ⊤ (λ n. n ≤ LONGEST)) }
 {
     let mut head = [0u8; 2];
     let got = io::read_full(STDIN_FILENO, &mut head);
@@ -36,7 +42,7 @@ fn next_length() -> Result<Option<usize>, Fault>
         return Err(Fault::Truncated);
     }
     let n = usize::from(u16::from_be_bytes(head));
-    if n > 4096 {
+    if n > LONGEST {
         return Err(Fault::TooLong);
     }
     Ok(Some(n))
@@ -44,7 +50,7 @@ fn next_length() -> Result<Option<usize>, Fault>
 
 // Reads a message that fills the slice and writes its digest; one that cannot be written is left out.
 fn sum(rt: &impl Print, body: &mut [u8]) -> Result<(), Fault>
-    requires { length body.old ≤ 4096 }
+    requires { length body.old ≤ LONGEST }
 {
     if io::read_full(STDIN_FILENO, body) < body.len() {
         return Err(Fault::Truncated);
@@ -59,7 +65,7 @@ fn message(rt: &impl Print) -> Result<bool, Fault> {
     let Some(n) = next_length()? else {
         return Ok(false);
     };
-    let mut body = [0; 4096];
+    let mut body = [0; LONGEST];
     sum(rt, &mut body[..n])?;
     Ok(true)
 }
