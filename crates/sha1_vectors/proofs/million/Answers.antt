@@ -4,7 +4,7 @@ use Rattle.sha1_message.specs.declared.Stream.{Stream}
 use Rattle.sha1_message.proofs.StreamLaws.{all_count}
 use Rattle.sha1_vectors.proofs.million.Goals as goal
 
-pub hundreds-preserved : goal.hundreds-preserved
-hundreds-preserved g c =
+pub loop-preserved : goal.loop-preserved
+loop-preserved g c =
     let counted = ap (λ (s : Stream). s.count) c.push_all.ensures ∙ all_count _ _ in
     omega (arith, counted)

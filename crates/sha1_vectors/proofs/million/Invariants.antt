@@ -2,5 +2,5 @@
 use Rattle.std.proofs.Common.{◌≡◌, ◌*◌}
 use Rattle.sha1_vectors.proofs.million.Given as goal
 
-abbrev pub invariant-hundreds : goal.invariant-hundreds
-invariant-hundreds g l = l.s.count ≡ 100 * l.counter
+abbrev pub invariant-loop : goal.invariant-loop
+invariant-loop g l = l.s.count ≡ 100 * l.counter
