@@ -49,7 +49,7 @@ impl<'a> Page<'a> {
     }
 }
 
-// Upper case; `sha1_text` has the lower case: the contracts of both name their digit.
+// By hand: of the kit's `hex` only what needs an allocator writes upper case.
 fn hex_digit(d: u8) -> u8
     requires { d < 16 }
     ensures { result ≡ hex_digit d }
