@@ -14,16 +14,7 @@ impl<'a> Fields<'a> {
     }
 
     pub fn take<const N: usize>(&mut self) -> [u8; N] {
-        match self.rest.split_first_chunk() {
-            Some((field, rest)) => {
-                self.rest = rest;
-                *field
-            }
-            None => {
-                self.rest = &[];
-                [0; N]
-            }
-        }
+        self.bytes(N).first_chunk().copied().unwrap_or([0; N])
     }
 
     // So many bytes.
@@ -40,7 +31,8 @@ impl<'a> Fields<'a> {
         }
     }
 
-    // One for each width: no trait of std has `from_le_bytes`, and one of ours would need four impls to save three lines.
+    // One for each width: no trait of std has `from_le_bytes`, one of ours would need four impls to save three lines, and the kit's `num_traits` is
+    // a library for three lines.
     pub fn byte(&mut self) -> u8 {
         u8::from_le_bytes(self.take())
     }

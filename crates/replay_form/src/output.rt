@@ -1,6 +1,6 @@
 // Standard output, written by as few writes as there can be.
 use crate::fault::Fault;
-use crate::{LONGEST, MARGIN, ROOM};
+use crate::{MARGIN, ROOM};
 use arrayvec::ArrayVec;
 
 const STDOUT_FILENO: i32 = 1;
@@ -18,7 +18,8 @@ impl Output {
         }
     }
 
-    // By the kit's `io`: a write that a signal interrupts is one that failed, as always here, and std's `write_all` would try it again.
+    // By the kit's `io`: a write that a signal interrupts is one that failed, as `replay` always had it; std's `write_all` would try it again,
+    // as `play` does.
     pub fn flush(&mut self) -> Result<(), Fault> {
         let written = io::write_all(STDOUT_FILENO, self.bytes.as_slice());
         self.bytes.clear();
@@ -38,12 +39,13 @@ impl Output {
         let _ = self.bytes.try_extend_from_slice(part);
     }
 
-    // The length of a part of a FIFO, which has no more than 9,000 bytes: the two low bytes of the number.
+    // The length of a part of a FIFO, which has no more than 9,000 bytes.
     pub fn put_length(&mut self, part: &[u8]) {
-        let length = part.len().min(LONGEST).to_le_bytes();
-        self.put(&length[..2]);
+        let length = u16::try_from(part.len()).unwrap_or(u16::MAX);
+        self.put(&length.to_le_bytes());
     }
 
+    // `flags.map(u8::from)` does not prove here: for any N, `map` asks for one below 2^63.
     pub fn put_flags<const N: usize>(&mut self, flags: [bool; N]) {
         for flag in &flags {
             self.put(&[u8::from(*flag)]);
