@@ -61,14 +61,14 @@ pub struct Step {
     pub rest: [u8; 40],
 }
 
-// A hexadecimal digit's value; any other character has one too, unlike for `char::to_digit`.
+// A small hexadecimal digit's value; any other character has one too, unlike for `char::to_digit`.
 fn digit(c: u8) -> u8
     ensures { result < 16 }
 {
     if c < b'a' { c % 16 } else { (c % 16 + 9) % 16 }
 }
 
-pub fn byte(high: u8, low: u8) -> u8 {
+fn byte(high: u8, low: u8) -> u8 {
     digit(high) * 16 + digit(low)
 }
 
@@ -102,6 +102,17 @@ impl Step {
         u32::from_be_bytes([0, byte(a, b), byte(c, d), byte(e, f)]) as usize
     }
 
+    // The refusal number expected, behind the byte.
+    pub fn refusal(&self) -> u8 {
+        let [high, low, ..] = self.rest;
+        byte(high, low)
+    }
+
+    // The bits of several calls' refusal numbers that are expected, behind how many times.
+    pub fn refusals(&self) -> u8 {
+        byte(self.rest[7], self.rest[8])
+    }
+
     // Twenty bytes, two hexadecimal digits each.
     pub fn answer(&self) -> [u8; 20] {
         let mut answer = [0u8; 20];
@@ -118,7 +129,7 @@ impl Step {
         let mut next = self.byte % 251;
         for byte in &mut room[..n] {
             *byte = next;
-            next = next.wrapping_add(1) % 251;
+            next = if next < 250 { next + 1 } else { 0 };
         }
         &room[..n]
     }

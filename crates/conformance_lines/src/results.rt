@@ -1,7 +1,7 @@
 // What came of each kind of line, beside what it expects. A line's name and the rest of it may be any bytes: they are written as they are.
 // The places in the rest of a line are the sheet's columns. The refusals of several calls are numbers, put together bit by bit in one byte, as
 // the sheet has them.
-use crate::line::{Step, byte};
+use crate::line::Step;
 use crate::show::{Pair, verdict};
 use refusal::{Refusal, number_of};
 use std::fmt::Display;
@@ -88,8 +88,7 @@ impl<'a, R: Print> Line<'a, R> {
     pub fn show_writes(&self, how: &str, n: usize, refusals: u8) {
         let (offset, first) = (self.step.offset(), self.step.byte);
         let what = format_args!("write to {offset:04x}, {first:02x}{how}{n:06x}    refusals  ");
-        let expected = byte(self.step.rest[7], self.step.rest[8]);
-        self.compare(what, Pair::new(expected, refusals), true);
+        self.compare(what, Pair::new(self.step.refusals(), refusals), true);
     }
 
     pub fn show_text(&self, refusals: u8) {
@@ -102,8 +101,7 @@ impl<'a, R: Print> Line<'a, R> {
     pub fn show_read(&self, got: u8, refusal: Option<Refusal>) {
         let offset = self.step.offset();
         let what = format_args!("read {offset:04x}                     byte      ");
-        let [high, low, ..] = self.step.rest;
-        let number = Pair::new(byte(high, low), number_of(refusal));
+        let number = Pair::new(self.step.refusal(), number_of(refusal));
         self.compare_both(what, Pair::new(self.step.byte, got), "refusal", number);
     }
 
@@ -111,7 +109,7 @@ impl<'a, R: Print> Line<'a, R> {
     pub fn show_drain(&self, n: usize, differences: u8, refusals: u8) {
         let (offset, first) = (self.step.offset(), self.step.byte);
         let what = format_args!("read {offset:04x}, {first:02x}.. {n:06x}        differ    ");
-        let numbers = Pair::new(byte(self.step.rest[7], self.step.rest[8]), refusals);
+        let numbers = Pair::new(self.step.refusals(), refusals);
         self.compare_both(what, Pair::new(0, differences), "refusals", numbers);
     }
 
@@ -120,8 +118,7 @@ impl<'a, R: Print> Line<'a, R> {
         let offset = self.step.offset();
         let what = format_args!("permission {offset:04x}               byte      ");
         let got = u8::from(reset) << 1 | u8::from(extend);
-        let [high, low, ..] = self.step.rest;
-        let number = Pair::new(byte(high, low), refusal);
+        let number = Pair::new(self.step.refusal(), refusal);
         self.compare_both(what, Pair::new(self.step.byte, got), "refusal", number);
     }
 
