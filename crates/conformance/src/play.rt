@@ -4,7 +4,7 @@ use conformance_lines::line::Kind;
 use conformance_lines::results::Line;
 use record::limits::FIFO_LEAST;
 
-// A heading, or an empty line, does nothing.
+// The one switch on a line's kind that acts: `Kind::from` is a table of the sheet's letters. A heading, or an empty line, does nothing.
 fn take(bench: &mut Bench<'_>, line: &Line<'_, impl Print>) {
     match line.step.kind {
         Kind::PowerOn => bench.power_on(line),

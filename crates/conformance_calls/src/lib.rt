@@ -75,13 +75,11 @@ impl Bench<'_> {
         line.show_text(refusals);
     }
 
-    // Free bytes from the line's byte on are written at the offset, as many as the line says, LONGEST at most. Here and below the room is the
-    // method's own: the bytes are lent from it, and there is no heap.
+    // Free bytes from the line's byte on are written at the offset, as many as the line says, LONGEST at most.
     pub fn fill(&mut self, line: &Line<'_, impl Print>) {
-        let mut room = [0; LONGEST];
-        let bytes = line.step.free_bytes(&mut room);
-        let refusals = self.send(line.step.offset(), bytes.iter().copied());
-        line.show_writes(".. ", bytes.len(), refusals);
+        let n = line.step.times().min(LONGEST);
+        let refusals = self.send(line.step.offset(), line.step.free_bytes(n));
+        line.show_writes(".. ", n, refusals);
     }
 
     // What a read gives, the record not yet taken over.
@@ -98,7 +96,10 @@ impl Bench<'_> {
     }
 
     // The bytes read at the offset, one after the other, should be these.
-    fn receive(&mut self, offset: u16, expected: &[u8]) -> Received {
+    fn receive<I: Iterator<Item = u8> + Drop>(&mut self, offset: u16, expected: I) -> Received
+        requires can { I.can_next expected }
+        requires ends { IsFinite (I.remaining expected) }
+    {
         let mut all = Received::default();
         for byte in expected {
             let o = self.outcome_at(offset);
@@ -111,10 +112,9 @@ impl Bench<'_> {
 
     // Free bytes from the line's byte on are read at the offset, as many as the line says, LONGEST at most.
     pub fn drain(&mut self, line: &Line<'_, impl Print>) {
-        let mut room = [0; LONGEST];
-        let expected = line.step.free_bytes(&mut room);
-        let all = self.receive(line.step.offset(), expected);
-        line.show_drain(expected.len(), all.differences, all.refusals);
+        let n = line.step.times().min(LONGEST);
+        let all = self.receive(line.step.offset(), line.step.free_bytes(n));
+        line.show_drain(n, all.differences, all.refusals);
     }
 
     // The engine answers the run of the offset's low byte; the refusal number expected is the high byte.
@@ -132,11 +132,15 @@ impl Bench<'_> {
         self.answer(line, &answer[..n]);
     }
 
-    // So too, with free bytes from the line's byte on, as many as the line says, LONGEST at most.
+    // So too, with free bytes from the line's byte on, as many as the line says, LONGEST at most: in room of the method's own, since an answer
+    // is a slice and there is no heap.
     pub fn respond_free(&mut self, line: &Line<'_, impl Print>) {
+        let n = line.step.times().min(LONGEST);
         let mut room = [0; LONGEST];
-        let answer = line.step.free_bytes(&mut room);
-        self.answer(line, answer);
+        for (to, byte) in room.iter_mut().zip(line.step.free_bytes(n)) {
+            *to = byte;
+        }
+        self.answer(line, &room[..n]);
     }
 
     // The window has as many bytes as the offset says, with that digest; the refusal number expected is the line's byte.
@@ -161,7 +165,7 @@ impl Bench<'_> {
     }
 }
 
-// A window is never longer than the greatest C; the digest of a longer one is left out.
+// A window is never longer than the greatest C; of a longer one dashes are shown in place of the digest.
 fn digest(part: &[u8]) -> [u8; 40] {
     if part.len() > usize::from(FIFO_GREATEST) {
         return [b'-'; 40];

@@ -1,6 +1,9 @@
 // A line of the sheet: 22 characters that name the entry, a letter that says what is done, an offset, a byte, and up to 40 characters more.
 ghost use Rattle.std.specs.Prelude.{◌<◌};
 
+use std::iter::{Cycle, Skip, Take};
+use std::ops::Range;
+
 // The characters of a line: a shorter one is filled with blanks, a longer one cut.
 const WIDTH: usize = 72;
 
@@ -123,14 +126,8 @@ impl Step {
         answer
     }
 
-    // Bytes that the sheet leaves free, in the room: the line's byte and those after it, modulo 251, as many as the line says and there is room.
-    pub fn free_bytes<'a>(&self, room: &'a mut [u8]) -> &'a [u8] {
-        let n = self.times().min(room.len());
-        let mut next = self.byte % 251;
-        for byte in &mut room[..n] {
-            *byte = next;
-            next = if next < 250 { next + 1 } else { 0 };
-        }
-        &room[..n]
+    // Bytes that the sheet leaves free: the line's byte and those after it, modulo 251, n of them.
+    pub fn free_bytes(&self, n: usize) -> Take<Skip<Cycle<Range<u8>>>> {
+        (0..251).cycle().skip(usize::from(self.byte)).take(n)
     }
 }
