@@ -5,7 +5,8 @@ use record::{Device, Phase};
 // Vendor, device and revision, as the guest reads them at 0F00.
 const IDENTITY: [u8; 5] = [0x14, 0x10, 0x01, 0x00, 0x01];
 
-// The record of the device and its two FIFOs.
+// The record of the device and its two FIFOs: these are all that a monitor is, and README.md shows it so; the handle that prints is lent to
+// each method.
 #[derive(Drop)]
 pub struct Monitor {
     device: Device,
