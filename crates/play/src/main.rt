@@ -4,30 +4,28 @@
 use capture_output::put_output;
 use std::io::Write;
 
+mod fault;
 mod input;
 
+use fault::Fault;
 use input::{CAPTURE_BYTES, read_capture};
 
 // The longest output has 50,020 bytes: 10,000 lines of five, budget, and cycles 10000.
 const TEXT_BYTES: usize = 65_536;
 
-// An input or output that fails gets one line, and the run ends.
-const NO_INPUT: &[u8] = b"play: standard input cannot be read\n";
-
-const NO_OUTPUT: &[u8] = b"play: standard output cannot be written\n";
-
-fn run(rt: &HostRuntime, capture: &mut [u8], text: &mut [u8]) -> Result<(), &'static [u8]> {
-    let came = read_capture(rt.stdin(), capture).map_err(|_| NO_INPUT)?;
+fn run(rt: &HostRuntime, capture: &mut [u8], text: &mut [u8]) -> Result<(), Fault> {
+    let came = read_capture(rt.stdin(), capture).map_err(|_| Fault::Input)?;
     let printed = put_output(&capture[..came], text);
     rt.stdout()
         .write_all(&text[..printed])
-        .map_err(|_| NO_OUTPUT)
+        .map_err(|_| Fault::Output)
 }
 
+// An input or output that fails gets one line. Not `eprintln!`: it gives up where signals interrupt many of its writes, `write_all` tries on.
 fn main(rt: HostRuntime) {
     let mut capture = [0; CAPTURE_BYTES];
     let mut text = [0; TEXT_BYTES];
-    if let Err(line) = run(&rt, &mut capture, &mut text) {
-        let _ = rt.stderr().write_all(line);
+    if let Err(fault) = run(&rt, &mut capture, &mut text) {
+        let _ = writeln!(rt.stderr(), "play: {fault}");
     }
 }
