@@ -33,7 +33,7 @@ fn flags(arguments: &[u8], count: usize) -> Result<(), Fault> {
 
 // A length of bytes that follow.
 fn length(fields: &mut Fields<'_>) -> Result<usize, Fault>
-    ensures { IfOk result (λ n. n ≤ 9000) }
+    ensures { IfOk result (λ n. n ≤ LONGEST) }
 {
     let n = usize::from(fields.u16());
     if LONGEST < n {
