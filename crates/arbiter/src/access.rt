@@ -82,7 +82,7 @@ pub fn release(s: Arbiter, x: Page) -> Change
     keeps_command(s)
 }
 
-// Of a lower one alone.
+// From a lower locality alone; of a free device it is a request, and else it does nothing.
 #[tactic(auto, unfolding(crate::specs::Rules::seize, crate::specs::Rules::request))]
 pub fn seize(s: Arbiter, x: Page) -> Change
     ensures { result ≡ seize_spec s x.locality }

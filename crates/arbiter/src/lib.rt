@@ -14,8 +14,8 @@ pub const LOCALITIES: usize = 5;
 #[derive(Clone, Copy, PartialEq, Eq, PartialOrd, Ord, Debug)]
 pub struct Locality(pub u8);
 
-// A locality that has a page. It is built where the range is known, and tested in `pcr::table::permission` alone: a TryFrom would put an Err where
-// else none can come.
+// A locality that has a page. It is built where the range is known, and tested in `pcr::table::permission` alone: a TryFrom would give an Err
+// at the other places, where none can come.
 #[derive(Clone, Copy, PartialEq, Eq, Debug)]
 pub struct Page {
     pub locality: Locality,

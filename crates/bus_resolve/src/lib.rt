@@ -27,7 +27,7 @@ pub enum WriteKind {
 pub fn page_at(offset: u16) -> Locality
     ensures { (result ≡ page_at offset) × (result.0 ≡ page_of offset) }
 {
-    // `as`, since std has no From that narrows: a try_from would have an Err that cannot come, and a locality above 4 is none.
+    // `as`, since std has no From that narrows: a u16 lies in one of sixteen pages, so a try_from would have an Err that cannot come.
     Locality((offset / PAGE) as u8)
 }
 

@@ -19,7 +19,7 @@ use reg_map::register_at;
 use reg_sts_read::size::Sizes;
 
 // What a read comes to: of the record only the phase may change. The refusal stands beside, since a refused read has a byte too. No
-// `RegisterRead` in it: that saves two lines, and byte and phase would lie one step deeper wherever they are named.
+// `RegisterRead` in it: it would save two lines, but byte and phase would lie one step deeper wherever they are named.
 #[derive(Clone, Copy)]
 pub struct ReadCycle {
     pub refusal: Option<Refusal>,

@@ -22,8 +22,8 @@ use reg_sts_read::size::Sizes;
 use reg_sts_write::completion::BAD_SIZE;
 
 // What a write comes to but for the hash sequence and the PCRs, which its kind changes; a refused one
-// leaves what it found, and its kind is Ignored, so that `write` puts either together in one way. No `Effect` in it: that saves
-// three lines, and control, phase and FIFOs would lie one step deeper wherever they are named.
+// leaves what it found, and its kind is Ignored, so that `write` puts either together in one way. No `Effect` in it: it would
+// save three lines, but control, phase and FIFOs would lie one step deeper wherever they are named.
 #[derive(Clone, Copy)]
 pub struct WriteCycle {
     pub refusal: Option<Refusal>,

@@ -11,7 +11,8 @@ pub struct Outcome {
     pub device: Device,
 }
 
-// The same, with the byte that a read gives, beside the refusal since document 01 names a refused one's, FFh (`refusals_change_nothing.value`).
+// The same, with the byte that a read gives, beside the refusal since document 01 names a refused one's, FFh (`refusals_change_nothing.value`). No
+// `Outcome` in it: users and the claims' `Calls` name `refusal`, `byte` and `device`.
 #[derive(Clone, Copy, PartialEq, Eq, Debug)]
 pub struct ReadOutcome {
     pub refusal: Option<Refusal>,

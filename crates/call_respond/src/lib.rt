@@ -16,7 +16,8 @@ use reg_fifo::{FifoAction, update_fifos};
 use reg_sts_write::completion::enter_completion;
 
 // What an answer comes to; identity, hash sequence and PCRs stay. A refused one leaves what it found, so that `respond` puts either together in
-// one way. No type and no `refused_` function in common with a write's: that has a kind of write, too. No `Effect` in it, as there.
+// one way. No type and no `refused_` function in common with a write's: that has a kind of write, too. No `Effect` in it, for
+// the reason at `WriteCycle`.
 #[derive(Clone, Copy)]
 pub struct AnswerCycle {
     pub refusal: Option<Refusal>,

@@ -9,7 +9,7 @@ ghost use Rattle.capture_text.specs.Lines.{line_of, lines_of, word_text, cycles_
 use capture::Word;
 use text::Page;
 
-// Of a record's two bytes in the answers: the number of its refusal, 0 for none, and the byte.
+// Of a record's two bytes in the answers: the number of its refusal, 0 for none, and the byte; numbers, as `capture_play`'s `Plays` has them.
 fn put_line(page: &mut Page, refusal: u8, byte: u8)
     ensures { Gains page.old (line_of refusal byte) page.new }
 {
@@ -45,7 +45,7 @@ fn put_cycles(page: &mut Page, n: usize)
     ensures { Gains page.old (cycles_text n) page.new }
 {
     page.put(b"cycles ");
-    // `as`, since std has no From that takes a usize.
+    // `as`, since std has no From of a usize for u64.
     page.put_decimal(n as u64);
     page.put(b"\n");
 }

@@ -33,7 +33,7 @@ pub fn play(rt: &impl Print, write_fifo: &mut [u8], read_fifo: &mut [u8], sheet:
     let mut length = FIFO_LEAST;
     for text in sheet.split(|c| *c == b'\n') {
         let line = Line::parse(rt, text);
-        // Asked before the match in `take`: a `Bench` lends slices, which must be cut to the length of a power-on line before its call.
+        // Asked before the match in `take`: a `Bench` has the lent slices, which must be cut to the length of a power-on line before its call.
         if line.step.kind == Kind::PowerOn {
             length = usize::from(line.step.offset());
         }

@@ -24,7 +24,7 @@ pub struct Bench<'a> {
     pub read_fifo: &'a mut [u8],
 }
 
-// Of many reads the bits in which any byte differs from the one expected, and of all their refusal numbers.
+// Of many reads the bits in which any byte differs from the one expected, and of all their refusal numbers, as the sheet has them in one byte.
 #[derive(Clone, Copy, Default)]
 struct Received {
     differences: u8,
@@ -165,7 +165,7 @@ impl Bench<'_> {
     }
 }
 
-// A window is never longer than the greatest C; of a longer one dashes are shown in place of the digest.
+// `hash` asks for a bound, which the contract of `window` does not give: no window is longer than the greatest C, and dashes would stand for one.
 fn digest(part: &[u8]) -> [u8; 40] {
     if part.len() > usize::from(FIFO_GREATEST) {
         return [b'-'; 40];

@@ -53,7 +53,7 @@ impl From<u8> for Kind {
     }
 }
 
-// The name and the rest of a line may be any bytes: the sheet is standard input.
+// The name and the rest of a line may be any bytes: the sheet is standard input. The places here and in the methods are the sheet's columns.
 #[derive(Clone, Copy)]
 pub struct Step {
     pub label: [u8; 22],

@@ -1,6 +1,5 @@
 // What came of each kind of line, beside what it expects. A line's name and the rest of it may be any bytes: they are written as they are.
-// The places in the rest of a line are the sheet's columns. The refusals of several calls are numbers, put together bit by bit in one byte, as
-// the sheet has them.
+// The refusals of several calls are numbers, put together bit by bit in one byte, as the sheet has them.
 use crate::line::Step;
 use crate::show::{Pair, verdict};
 use refusal::{Refusal, number_of};

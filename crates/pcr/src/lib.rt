@@ -18,8 +18,8 @@ pub struct Pcr {
 }
 
 // The answer to a permission question: `allowed` beside the refusal, since document 01 names what a refused one gives, no
-// (`refusals_change_nothing.value`). No one type for this, `PcrOutcome` and `WindowOutcome`: users and the claims' `Calls` name `allowed`, `value`
-// and `bytes`.
+// (`refusals_change_nothing.value`). No one type for this, `PcrOutcome` and `WindowOutcome`: users and the claims (`Calls`, `Steps`) name `allowed`,
+// `value` and `bytes`.
 #[derive(Clone, Copy, PartialEq, Eq, Debug)]
 pub struct Permission {
     pub refusal: Option<Refusal>,

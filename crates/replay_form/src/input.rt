@@ -39,7 +39,8 @@ impl Input {
         }
     }
 
-    // Until the buffer is full, or the input ends or fails: the first read does not tell the last two apart, so one more does.
+    // Until the buffer is full, or the input ends or fails: by the kit's `read_full`, since std's `read_exact` does not say how much came; it does not
+    // tell the last two apart, so one read more does.
     fn fill(&mut self) {
         self.end += io::read_full(STDIN_FILENO, &mut self.bytes[self.end..]);
         let last = match self.stdin.read(&mut self.bytes[self.end..]) {

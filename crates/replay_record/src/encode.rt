@@ -17,6 +17,7 @@ fn put_interrupts(out: &mut Output, interrupts: Interrupts) {
     put_causes(out, interrupts.status);
 }
 
+// The numbers are the image's (docs/REPLAY.md), as in `decode`.
 fn put_phase(out: &mut Output, phase: Phase) {
     let (kind, n, k) = match phase {
         Phase::Idle => (0, 0, 0),

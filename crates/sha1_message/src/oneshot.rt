@@ -5,7 +5,7 @@ ghost use Rattle.sha1_block.specs.Sha1.{sha1};
 use super::padding::close;
 use sha1_block::block::{FIRST, compress};
 
-// SHA-1 of a slice. `as` here and in the other files is between usize and u32 or u64, for which std has no From. That the length in bits is below 2^64
+// SHA-1 of a slice. `as`, since std has no From of a usize for u64. That the length in bits is below 2^64
 // is FIPS 180-4's own: a type for it would ask more of callers here, and the two functions of `padding` are handed it from here and from `finish`.
 pub fn hash(m: &[u8]) -> [u8; 20]
     requires { length m.now < 2 ^ 61 }

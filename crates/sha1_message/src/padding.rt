@@ -50,6 +50,7 @@ pub fn close(h: [u32; 5], tail: &[u8], n: u64) -> [u8; 20]
     requires n_in_bounds { n % 64 ≤ length tail.now }
     ensures { result ≡ finish (record { h = h; tail = tail.now; count = n }) }
 {
+    // `as`, since std has no From of a u64 for usize, and a try_from would have an Err that cannot come.
     let at = (n % 64) as usize;
     let block = mark(tail, at);
     if at < 56 {

@@ -13,6 +13,7 @@ pub fn join_lent(h: [u32; 5], count: u32, tail: &mut [u8; 64], b: u8) -> [u32; 5
     ensures value { result ≡ (join_spec (record { h = h; tail = tail.old; count = count }) b).h }
     ensures tail_after { tail.new ≡ (join_spec (record { h = h; tail = tail.old; count = count }) b).tail }
 {
+    // `as`, since std has no From of a u32 for usize, and a try_from would have an Err that cannot come.
     let at = (count % 64) as usize;
     tail[at] = b;
     if at != 63 {

@@ -48,7 +48,7 @@ fn next_length() -> Result<Option<usize>, Fault>
     Ok(Some(n))
 }
 
-// Reads a message that fills the slice and writes its digest; one that cannot be written is left out.
+// Reads a message that fills the slice, by `read_full` as its length is, and writes its digest; one that cannot be written is left out.
 fn sum(rt: &impl Print, body: &mut [u8]) -> Result<(), Fault>
     requires { length body.old ≤ LONGEST }
 {
