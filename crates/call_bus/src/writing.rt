@@ -110,7 +110,8 @@ pub fn write_cycle(
     )
 }
 
-// A step of the hash sequence: a function of its own, so that no other write pays for its copies of the bank and of the stream.
+// A step of the hash sequence: a function of its own, so that no other write pays for its copies of the bank and of the stream. The bank comes first,
+// since an end measures the sequence that it closes.
 fn take_hash_step(device: &mut Device, kind: WriteKind, byte: u8)
     requires { kind ≡ HashData → device.old.launch.stream.count + 1 < 2 ^ 32 }
     ensures { device.new ≡ with_parts device.old device.old.control device.old.phase (launch_after kind device.old.launch byte) (pcrs_after kind device.old.launch device.old.pcrs) }
