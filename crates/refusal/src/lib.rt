@@ -29,6 +29,23 @@ impl Refusal {
     }
 }
 
+// The table's numbers by name, for who keeps or compares them; ACCEPTED is that of a call with no refusal.
+pub const ACCEPTED: u8 = 0;
+
+pub const OFFSET: u8 = Refusal::Offset as u8;
+
+pub const FIFO_LENGTH: u8 = Refusal::FifoLength as u8;
+
+pub const RUN: u8 = Refusal::Run as u8;
+
+pub const ANSWER_LENGTH: u8 = Refusal::AnswerLength as u8;
+
+pub const QUESTION: u8 = Refusal::Question as u8;
+
+pub const SHAPE: u8 = Refusal::Shape as u8;
+
+pub const HASH_LENGTH: u8 = Refusal::HashLength as u8;
+
 impl fmt::Display for Refusal {
     fn fmt<W: fmt::Write>(&self, f: &mut fmt::Formatter<W>) -> fmt::Result {
         f.write_str(match self {
