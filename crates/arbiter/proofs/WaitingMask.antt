@@ -7,7 +7,7 @@ use Prim.Native.Nat.{ℕ, zero, suc, ◌+◌, ◌-◌, ◌/◌, ◌≤◌}
 use native.Mathlib.Nat.{le_refl, le_trans}
 use native.Mathlib.Omega.{arith}
 use lib.Dec.{eqb}
-use lib.Count.{count_leading_zeros, leading_le}
+use lib.Count.{count_leading_zeros, leading_of_zero, leading_le}
 use lib.ListN.{get_or, length}
 use borrow.Author.Tests.{eqb-true}
 use Rattle.bits.specs.Bits.{flag_at}
@@ -61,7 +61,7 @@ zeros_and_place w =
     (get_or w 0 false ∷ get_or w 1 false ∷ get_or w 2 false ∷ get_or w 3 false ∷ get_or w 4 false ∷ []) refl)
 
 -- at most seven where the mask is not 0; n, not 7, so that a wrong number in the code is judged by the owner that it gives
-zeros_bounded : (m n : ℕ) → (m ≡ 0 → ⊥) → 7 ≤ n → count_leading_zeros 8 m ≤ n
+pub zeros_bounded : (m n : ℕ) → (m ≡ 0 → ⊥) → 7 ≤ n → count_leading_zeros 8 m ≤ n
 unfolding count_leading_zeros
 zeros_bounded zero n p l = absurd (p refl)
 zeros_bounded (suc m) n p l = le_trans (leading_le 7 (suc m / 2)) l
@@ -76,6 +76,12 @@ module _ (w : List Bool) (f0 f1 f2 f3 f4 : ℕ)
 
   told : count_leading_zeros 8 m + place (next_owner w) ≡ 8
   told = rw (is0, is1, is2, is3, is4) (zeros_and_place w)
+
+  pub nobody_waits : m ≡ 0 → None ≡ next_owner w
+  nobody_waits p = ap owner none ∙ owner_place (next_owner w)
+    where
+      none : 0 ≡ place (next_owner w)
+      none = omega (arith, rw (p, leading_of_zero) at told)
 
   pub highest_waits : (m ≡ 0 → ⊥) → Some (locality (7 - count_leading_zeros 8 m)) ≡ next_owner w
   highest_waits p = ap owner some ∙ owner_place (next_owner w)

@@ -1,7 +1,8 @@
--- pendingRequest: that the bit shows the others' requests and nothing else. Assumes nothing.
-use mathlib.Core.Path.{◌≡◌, refl, sym, ◌∙◌}
-use mathlib.Core.Bool.{Bool, true, false, cond, not, or-true, true≢false}
-use Prim.Native.Nat.{ℕ, zero, suc, ◌*◌, ◌<◌, ◌≤◌}
+-- pendingRequest: the walk over the localities, and that the bit shows the others' requests and nothing else. Assumes nothing.
+use mathlib.Core.Path.{◌≡◌, refl, sym, ◌∙◌, ap}
+use mathlib.Core.Bool.{Bool, true, false, cond, not, ◌&&◌, ◌||◌, or-true, true≢false}
+use Prim.Native.Nat.{ℕ, zero, suc, ◌+◌, ◌*◌, ◌<◌, ◌≤◌}
+use native.Mathlib.Numerals.{add-one}
 use native.Mathlib.Omega.{arith}
 use lib.Dec.{eqb}
 use borrow.Author.Tests.{eqb-true, eqb-false, eq-eqb, ne_eqb, not-true}
@@ -32,6 +33,14 @@ bit_2 a b false w e =
     ne_eqb (bit 2 (access_bits a b false w e)) 1 (λ q. omega arith)
 
 module _ (s : Arbiter) (x : Locality) where
+  -- ---- the walk up from locality 0
+
+  pub walk_more : (y : ℕ) (p : Bool) → p ≡ other_waits_below y s x → (p || (waits s y && other y x)) ≡ other_waits_below (y + 1) s x
+  walk_more y p e = rw (add-one, e)
+
+  pub walk_end : (y : ℕ) (p : Bool) → p ≡ other_waits_below y s x → localities ≤ y → y ≤ localities → p ≡ pending_request s x
+  walk_end y p e l m = let k : y ≡ localities = omega arith in e ∙ ap (λ (n : ℕ). other_waits_below n s x) k
+
   -- ---- what the bit says
 
   other_yes : (y : ℕ) → (y ≡ x.0 → ⊥) → other y x ≡ true
