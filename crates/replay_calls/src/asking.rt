@@ -1,5 +1,5 @@
 // The questions: each puts its outcome.
-use crate::put_refusal;
+use crate::{lent, put_refusal};
 use arbiter::Locality;
 use pcr::{PcrIndex, Permission};
 use replay_form::fields::Fields;
@@ -30,7 +30,8 @@ pub fn permission<F: FnOnce(PcrIndex, Locality) -> Permission>(
 }
 
 pub fn window(s: &State, out: &mut Output) {
-    let o = tis::window(s.device, s.write.as_slice(), s.read.as_slice());
+    let (n, m) = lent(s);
+    let o = tis::window(s.device, &s.write[..n], &s.read[..m]);
     put_refusal(out, o.refusal);
     out.put_length(o.bytes);
     out.put(o.bytes);

@@ -1,5 +1,5 @@
 // The calls that may change the record: each leaves the record and puts its outcome.
-use crate::put_refusal;
+use crate::{front, lent, put_refusal};
 use record::Device;
 use replay_form::fields::Fields;
 use replay_form::output::Output;
@@ -14,7 +14,8 @@ fn change<F: FnOnce(Device, &mut [u8], &mut [u8]) -> Outcome>(
 )
     requires { F.IsAlwaysCallable call }
 {
-    let o = call(s.device, s.write.as_mut_slice(), s.read.as_mut_slice());
+    let (n, m) = lent(s);
+    let o = call(s.device, front(&mut s.write, n), front(&mut s.read, m));
     s.device = o.device;
     put_refusal(out, o.refusal);
 }
@@ -32,12 +33,8 @@ pub fn reset(s: &mut State, out: &mut Output) {
 }
 
 pub fn read(s: &mut State, mut args: Fields<'_>, out: &mut Output) {
-    let o = tis::read(
-        s.device,
-        s.write.as_mut_slice(),
-        s.read.as_mut_slice(),
-        args.u64(),
-    );
+    let (n, m) = lent(s);
+    let o = tis::read(s.device, &s.write[..n], &s.read[..m], args.u64());
     s.device = o.device;
     put_refusal(out, o.refusal);
     out.put(&[o.byte]);

@@ -1,19 +1,10 @@
 // The call at the front of a stream: its opcode and its arguments, or why there is none.
 ghost use Rattle.std.specs.Prelude.{◌+◌, ◌≤◌, length, IfOk, IfSome};
 
-use crate::LONGEST;
 use crate::fault::Fault;
 use crate::fields::Fields;
 use crate::opcode::Opcode;
-
-// The bytes of a record's image; that and all sizes here are docs/REPLAY.md's, and must not follow a record that changes.
-const IMAGE: usize = 603;
-
-// Its flags come first, one byte each.
-const FLAGS: usize = 20;
-
-// Where the phase stands in it.
-const PHASE: usize = 21;
+use crate::{FLAGS, IMAGE, LONGEST, PHASE};
 
 // An opcode and its arguments, all of them.
 #[derive(Clone, Copy)]

@@ -1,5 +1,5 @@
 // Standard input, read by as few reads as there can be.
-ghost use Rattle.std.specs.Prelude.{◌+◌, ◌≤◌, length, IfOk, IfSome};
+ghost use Rattle.std.specs.Prelude.{◌≡◌, ◌+◌, ◌≤◌, length, IfOk, IfSome};
 
 use crate::call::{Call, next_call};
 use crate::fault::Fault;
@@ -29,7 +29,9 @@ pub struct Input {
 }
 
 impl Input {
-    pub fn new(stdin: Stdin) -> Input {
+    pub fn new(stdin: Stdin) -> Input
+        ensures { (result.at ≡ 0) × (result.end ≡ 0) }
+    {
         Input {
             stdin,
             source: Source::Open,
@@ -81,6 +83,7 @@ impl Input {
     // A call with so many bytes of arguments is played.
     pub fn advance(&mut self, arguments: usize)
         requires { self.old.at + 1 + arguments ≤ self.old.end }
+        ensures { (self.new.at ≡ self.old.at + 1 + arguments) × (self.new.end ≡ self.old.end) }
     {
         self.at += 1 + arguments;
     }

@@ -12,8 +12,17 @@ pub mod output;
 // It belongs to docs/REPLAY.md's form: the bench sheet's 9,000 is that sheet's own, and neither follows the other.
 pub const LONGEST: usize = 9000;
 
+// The bytes of a record's image; that and all sizes here are docs/REPLAY.md's, and must not follow a record that changes.
+pub const IMAGE: usize = 603;
+
+// Its flags come first, one byte each.
+pub const FLAGS: usize = 20;
+
+// Where the phase stands in it.
+pub const PHASE: usize = 21;
+
 // The bytes of the input's buffer, and of the output's.
-const ROOM: usize = 65536;
+pub const ROOM: usize = 65536;
 
 // More than any call and any outcome takes.
 const MARGIN: usize = 19000;

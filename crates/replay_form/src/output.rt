@@ -1,4 +1,6 @@
 // Standard output, written by as few writes as there can be.
+ghost use Rattle.std.specs.Prelude.{◌≡◌, []};
+
 use crate::fault::Fault;
 use crate::{MARGIN, ROOM};
 use arrayvec::ArrayVec;
@@ -12,7 +14,9 @@ pub struct Output {
 }
 
 impl Output {
-    pub fn new() -> Output {
+    pub fn new() -> Output
+        ensures { result.bytes.items ≡ [] }
+    {
         Output {
             bytes: ArrayVec::new(),
         }
