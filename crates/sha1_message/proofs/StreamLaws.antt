@@ -217,3 +217,8 @@ pub all_count : (m : List ℕ) (s : Stream) → (join_all s m).count ≡ s.count
 unfolding join_all
 all_count [] s = omega arith
 all_count (b ∷ m) s = all_count m (join s b) ∙ omega (arith, join_count s b)
+
+-- the state that `join_lent` leaves, from the words that it gives and the tail that it leaves
+pub join_parts : (s : Stream) (b : ℕ) (g t : List ℕ) → g ≡ (join s b).h → t ≡ (join s b).tail → record { h = g; tail = t; count = s.count + 1 } ≡ join s b
+unfolding join
+join_parts s b g t p q = rw (p, q) refl

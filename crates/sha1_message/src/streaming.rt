@@ -62,9 +62,18 @@ impl Stream {
         requires { self.old.count + length m.now < 2 ^ 32 }
         ensures { self.new ≡ join_all self.old m.now }
     {
+        // In locals, since through `self` the words are copied for each byte, which takes a third longer.
+        let Stream {
+            mut h,
+            mut tail,
+            mut count,
+        } = *self;
         for b in m {
-            self.push(*b);
+            let next = join_lent(h, count, &mut tail, *b);
+            h = next;
+            count += 1;
         }
+        *self = Stream { h, tail, count };
     }
 
     // The message with one byte more, by value, as the record goes (B-10).
