@@ -1,14 +1,16 @@
 -- The records behind the head: how many are played, and which. Assumes nothing.
-use mathlib.Core.Path.{◌≡◌, refl, ap, ◌∙◌}
+use mathlib.Core.Path.{◌≡◌, refl, sym, ap, ◌∙◌}
 use mathlib.Core.Bool.{Bool, true, false, cond}
 use mathlib.Core.List.{List, [], ◌∷◌, ◌++◌}
 use Rattle.std.specs.List.{prefix_len}
 use mathlib.Core.Logic.{◌⊎◌, inl, inr}
-use Prim.Native.Nat.{ℕ, zero, suc, ◌+◌, ◌*◌, ◌≤◌, ◌<◌, min}
+use Prim.Native.Nat.{ℕ, zero, suc, ◌+◌, ◌*◌, ◌/◌, ◌≤◌, ◌<◌, min}
 use native.Mathlib.Omega.{arith, min_cases}
 use lib.ListN.{length, get_or, take, drop}
 use lib.Seq.{take-take, take_all}
-use Rattle.std.proofs.lemmas.List.{get_or-drop}
+use Rattle.std.specs.Simd.{first_chunks}
+use Rattle.std.proofs.Common.{get_or-take, eq-or-lt_of_le}
+use Rattle.std.proofs.lemmas.List.{get_or-drop, drop-drop}
 use lib.Dec.{leb}
 use borrow.Author.Tests.{le-leb, lt-leb, leb-true, leb-false}
 use Rattle.capture.specs.declared.Cycle.{Cycle}
@@ -127,6 +129,41 @@ counted_once limit body n c = by c.stops
     by (inl e) = omega (arith, more)
     by (inr (inl e)) = omega (arith, more, bytes_bound body, c.within)
     by (inr (inr e)) = omega (arith, more, kind_bound n body e, c.within)
+
+-- n of at most so many records were looked at and are of known kinds: a bad kind comes, or no more records
+module _ (limit : ℕ) (body : List ℕ) (n most : ℕ) (at_most : most ≡ min limit (length body / 4)) (known : (i : ℕ) → i < n → kind_of body i ≤ 3) where
+  pub bad_kind_comes : n < most → 3 < kind_of body n → n ≡ count_of limit body
+  bad_kind_comes l b = sym (counted_once limit body n (record { within = omega arith; whole = omega arith; known = known; stops = inr (inr b) }))
+
+  pub no_more_records : n ≤ most → most ≤ n → n ≡ count_of limit body
+  no_more_records l m = sym (counted_once limit body n (record { within = omega arith; whole = omega arith; known = known; stops = ends }))
+    where
+      ends : (n ≡ limit) ⊎ ((length body < 4 * n + 4) ⊎ (3 < kind_of body n))
+      ends = min_cases limit (length body / 4) _ (λ a q. inl (omega arith)) (λ a q. inr (inl (omega arith)))
+
+-- one known kind more
+pub known_more : (body : List ℕ) (n : ℕ) → ((i : ℕ) → i < n → kind_of body i ≤ 3) → kind_of body n ≤ 3 → (i : ℕ) → i < n + 1 → kind_of body i ≤ 3
+known_more body n f k i l = by (eq-or-lt_of_le {n = i} {m = n} (omega arith))
+  where
+    by : (i ≡ n) ⊎ (i < n) → kind_of body i ≤ 3
+    by (inl e) = rw e k
+    by (inr q) = f i q
+
+-- the i-th of k records of four bytes
+fours_at : (k i : ℕ) (l : List ℕ) → i < k → get_or (first_chunks 4 k l) i [] ≡ take 4 (drop (4 * i) l)
+fours_at zero i l w = absurd (omega arith)
+fours_at (suc k) zero l w = refl
+fours_at (suc k) (suc i) l w = fours_at k i (drop 4 l) (omega arith) ∙ ap (take 4) (drop-drop (4 * i) 4 l ∙ ap (λ (n : ℕ). drop n l) (omega arith))
+
+-- the first byte of the n-th of the first m is its kind
+pub kind_in : (body : List ℕ) (m n : ℕ) (parts : List (List ℕ)) → parts ≡ first_chunks 4 (length body / 4) body → m ≤ length body / 4 → n < m
+    → get_or (get_or (take m parts) n []) 0 0 ≡ kind_of body n
+kind_in body m n parts e f l =
+    let z : 4 * n + 0 ≡ 4 * n = omega arith in
+    ap (λ (x : List ℕ). get_or x 0 0) (get_or-take m parts n [] l ∙ ap (λ (xs : List (List ℕ)). get_or xs n []) e ∙ fours_at (length body / 4) n body (omega arith))
+    ∙ get_or-take 4 (drop (4 * n) body) 0 0 (omega arith)
+    ∙ get_or-drop (4 * n) body 0 0
+    ∙ ap (λ (k : ℕ). get_or body k 0) z
 
 -- ---- which they are
 

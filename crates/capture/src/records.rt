@@ -1,6 +1,6 @@
 // The records behind the head: one of them, how many are played, and the word for what is left.
 ghost use Rattle.std.specs.Prelude.{◌≡◌, ◌≤◌, length};
-ghost use Rattle.capture.specs.Capture.{record_bytes, cycle_at, known, count_of, word_for};
+ghost use Rattle.capture.specs.Capture.{record_bytes, cycle_at, count_of, word_for};
 
 use crate::{Cycle, RECORD_BYTES, Word};
 
@@ -19,21 +19,18 @@ pub fn cycle_of(bytes: &[u8]) -> Cycle
     }
 }
 
-// Has a record of these bytes a known kind.
-fn is_known(bytes: &[u8]) -> bool
-    ensures { result ≡ known bytes.now }
-{
-    matches!(bytes, [kind, ..] if *kind <= LAST_KIND)
-}
-
 // The lesser of the limit and the whole records before the first bad kind.
 pub fn count(body: &[u8], limit: usize) -> usize
     ensures { result ≡ count_of limit body.now }
 {
-    body.chunks_exact(RECORD_BYTES)
-        .take(limit)
-        .take_while(|bytes| is_known(bytes))
-        .count()
+    let (records, _) = body.as_chunks::<RECORD_BYTES>();
+    let most = limit.min(records.len());
+    for (n, [kind, ..]) in records[..most].iter().enumerate() {
+        if LAST_KIND < *kind {
+            return n;
+        }
+    }
+    most
 }
 
 // After n records, with so many bytes left.
