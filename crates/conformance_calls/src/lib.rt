@@ -4,6 +4,7 @@
 ghost use Rattle.std.specs.Iterator.{IsFinite};
 
 use arbiter::Locality;
+use conformance_lines::line::FREE;
 use conformance_lines::results::Line;
 use pcr::PcrIndex;
 use record::Device;
@@ -137,9 +138,7 @@ impl Bench<'_> {
     pub fn respond_free(&mut self, line: &Line<'_, impl Print>) {
         let n = line.step.times().min(LONGEST);
         let mut room = [0; LONGEST];
-        for (to, byte) in room.iter_mut().zip(line.step.free_bytes(n)) {
-            *to = byte;
-        }
+        put_free_bytes(&mut room[..n], line.step.byte);
         self.answer(line, &room[..n]);
     }
 
@@ -162,6 +161,15 @@ impl Bench<'_> {
     pub fn pcr(&self, line: &Line<'_, impl Print>) {
         let o = tis::pcr_value(self.device, PcrIndex(line.step.low));
         line.show_pcr(sha1_text::hex(o.value), o.refusal);
+    }
+}
+
+// `Step::free_bytes` as a slice, whose bytes that iterator gives one by one in almost twice the time.
+fn put_free_bytes(room: &mut [u8], first: u8) {
+    let mut byte = first % FREE;
+    for to in room {
+        *to = byte;
+        byte = if byte < FREE - 1 { byte + 1 } else { 0 };
     }
 }
 

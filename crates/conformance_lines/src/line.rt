@@ -7,6 +7,9 @@ use std::ops::Range;
 // The characters of a line: a shorter one is filled with blanks, a longer one cut.
 const WIDTH: usize = 72;
 
+// How many bytes the sheet's free ones go over, from 0 on.
+pub const FREE: u8 = 251;
+
 // What a line asks for, by its letter; a heading's, and an empty line's, is a blank.
 #[derive(Clone, Copy, PartialEq, Eq)]
 pub enum Kind {
@@ -128,6 +131,6 @@ impl Step {
 
     // Bytes that the sheet leaves free: the line's byte and those after it, modulo 251, n of them.
     pub fn free_bytes(&self, n: usize) -> Take<Skip<Cycle<Range<u8>>>> {
-        (0..251).cycle().skip(usize::from(self.byte)).take(n)
+        (0..FREE).cycle().skip(usize::from(self.byte)).take(n)
     }
 }
