@@ -4,7 +4,6 @@ use crate::line::Step;
 use crate::show::{Pair, verdict};
 use refusal::{Refusal, number_of};
 use std::fmt::Display;
-use std::io;
 
 // A line of the sheet that is being played, and where what it gives is shown.
 #[derive(Drop)]
@@ -21,15 +20,10 @@ impl<'a, R: Print> Line<'a, R> {
         }
     }
 
-    // The entry, and what came.
-    fn write(&self, text: impl Display + Drop) -> io::Result<()> {
-        self.rt.write_all(&self.step.label)?;
-        self.rt.println(text)
-    }
-
-    // A line that cannot be written is left out: the sheet is played on.
+    // The entry, and what came. What cannot be written is left out, and no more of the line than that: the sheet is played on.
     fn show(&self, text: impl Display + Drop) {
-        let _ = self.write(text);
+        let _ = self.rt.write_all(&self.step.label);
+        let _ = self.rt.println(text);
     }
 
     // One comparison; `also` says whether all else is as expected.
@@ -45,23 +39,6 @@ impl<'a, R: Print> Line<'a, R> {
     }
 
     // Two comparisons, of the line's byte as refusal number and of the text behind it.
-    fn write_texts(
-        &self,
-        what: impl Display + Drop,
-        refusal: Option<Refusal>,
-        got: [u8; 40],
-        also: bool,
-    ) -> io::Result<()> {
-        let number = Pair::new(self.step.byte, number_of(refusal));
-        self.rt.write_all(&self.step.label)?;
-        print!(self.rt; "{what}    refusal   {number}  expected ")?;
-        self.rt.write_all(&self.step.rest)?;
-        self.rt.print("  got ")?;
-        self.rt.write_all(&got)?;
-        self.rt
-            .println(verdict(also && number.same() && got == self.step.rest))
-    }
-
     fn compare_texts(
         &self,
         what: impl Display + Drop,
@@ -69,7 +46,15 @@ impl<'a, R: Print> Line<'a, R> {
         got: [u8; 40],
         also: bool,
     ) {
-        let _ = self.write_texts(what, refusal, got, also);
+        let number = Pair::new(self.step.byte, number_of(refusal));
+        let _ = self.rt.write_all(&self.step.label);
+        let _ = print!(self.rt; "{what}    refusal   {number}  expected ");
+        let _ = self.rt.write_all(&self.step.rest);
+        let _ = self.rt.print("  got ");
+        let _ = self.rt.write_all(&got);
+        let _ = self
+            .rt
+            .println(verdict(also && number.same() && got == self.step.rest));
     }
 
     pub fn show_reset(&self, refusal: Option<Refusal>) {

@@ -21,11 +21,11 @@ fn run(rt: &HostRuntime, capture: &mut [u8], text: &mut [u8]) -> Result<(), Faul
         .map_err(|_| Fault::Output)
 }
 
-// An input or output that fails gets one line. Not `eprintln!`: it gives up where signals interrupt many of its writes, `write_all` tries on.
+// An input or output that fails gets one line, by one write.
 fn main(rt: HostRuntime) {
     let mut capture = [0; CAPTURE_BYTES];
     let mut text = [0; TEXT_BYTES];
     if let Err(fault) = run(&rt, &mut capture, &mut text) {
-        let _ = writeln!(rt.stderr(), "play: {fault}");
+        let _ = eprintln!(rt; "play: {fault}");
     }
 }

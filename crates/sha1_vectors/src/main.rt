@@ -4,7 +4,6 @@
 ghost use Rattle.std.specs.Prelude.{◌<◌, length};
 
 use sha1_message::Stream;
-use std::io;
 
 // A known message, its digest, and what is printed of it; `short` is far below what a hash or a stream takes.
 #[derive(Clone, Copy)]
@@ -16,22 +15,21 @@ struct Vector<'a> {
 }
 
 impl Vector<'_> {
-    // What was hashed and how, the digest that came, the expected one, and whether they are the same.
-    fn line(self, rt: &impl Print, way: &str, digest: [u8; 20]) -> io::Result<()> {
+    // What was hashed and how, the digest that came, the expected one, and whether they are the same. What cannot be written is left out, and no more
+    // of the line than that.
+    fn show_digest(self, rt: &impl Print, way: &str, digest: [u8; 20]) {
         let got = sha1_text::hex(digest);
         let verdict = if got.as_slice() == self.expected.as_bytes() {
             "ok"
         } else {
             "DIFFERS"
         };
-        print!(rt; "{}{way}", self.name)?;
-        rt.write_all(&got)?;
-        println!(rt; "  {}  {verdict}", self.expected)
-    }
-
-    // A line that cannot be written is left out.
-    fn show_digest(self, rt: &impl Print, way: &str, digest: [u8; 20]) {
-        let _ = self.line(rt, way, digest);
+        let _ = rt.print(self.name);
+        let _ = rt.print(way);
+        let _ = rt.write_all(&got);
+        let _ = rt.print("  ");
+        let _ = rt.print(self.expected);
+        let _ = println!(rt; "  {verdict}");
     }
 
     // At once and by the stream.
