@@ -25,4 +25,4 @@ field_set b t n k l e =
     rw (e ∙ big_endian n l, z, sets-eq (length_field n) b 56 (omega arith), y) (sym (append_assoc (take 56 b) (length_field n) []))
 
 pub returns : goal.returns
-returns c = field_set c.args.block _ (c.args.n * 8) (search rules) (omega arith) (c.copy_from_slice.ensures.after ∙ c.to_be_bytes.ensures)
+returns c = field_set c.args.block _ _ (search rules) (omega arith) (c.copy_from_slice.ensures.after ∙ c.to_be_bytes.ensures)
