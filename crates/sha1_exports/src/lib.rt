@@ -8,14 +8,27 @@ ghost use Rattle.sha1_exports.specs.Exports.{accepts, digest_in};
 
 use sha1_message::Stream;
 
-// SHA-1 of a slice, a byte at a time.
+// SHA-1 of a slice, a byte at a time, with the state in locals and a place, as it was quickest: `Stream::push_all` takes half as long again here.
 fn by_byte(m: &[u8]) -> [u8; 20]
     requires { length m.now < 2 ^ 32 }
     ensures { result ≡ sha1 m.now }
 {
-    let mut s = Stream::begin();
-    s.push_all(m);
-    s.finish()
+    let s = Stream::begin();
+    let mut h = s.h;
+    let mut tail = s.tail;
+    let mut i: usize = 0;
+    while i < m.len() {
+        // `as`, here and below, since std has no From of a usize for u32; the check sees that no bit is lost.
+        let g = sha1_message::join_lent(h, i as u32, &mut tail, m[i]);
+        h = g;
+        i += 1;
+    }
+    Stream {
+        h,
+        tail,
+        count: i as u32,
+    }
+    .finish()
 }
 
 // The digest of m goes into out. A bool, as C has it of both exports: answers false, and leaves out alone, where out has not 20 bytes or m has as
